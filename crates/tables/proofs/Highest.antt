@@ -1,0 +1,71 @@
+-- The search from the highest index down.
+use Prim.Native.Nat.{ℕ, zero, suc, _+_, _-_, _≤_, _<_}
+use mathlib.Core.Path.{_≡_, refl, _∙_, sym, ap}
+use mathlib.Core.Bool.{Bool, true, false}
+use mathlib.Core.List.{List}
+use lib.Dec.{ltb}
+use lib.ListN.{getD}
+use native.Mathlib.Omega.{arith}
+use native.Mathlib.Nat.{zero-add}
+use native.Mathlib.Numerals.{unary-clauses}
+use borrow.Author.Tests.{lt-ltb, le-ltb, le-leb, lt-leb, ltb-true, ltb-false}
+use Rattle.tables.specs.declared.search.Table.{Table}
+use Rattle.tables.specs.declared.search.Held.{Held}
+use Rattle.tables.specs.declared.search.Held.the-variants.{At, Nothing}
+use Rattle.tables.specs.Enabled.{enabled, enabledRange}
+use Rattle.tables.specs.Search.{answers, candidate, highest, held}
+use Rattle.tables.proofs.Booleans.{and-false}
+use Rattle.tables.proofs.Ranges.{end-low}
+
+module _ (test : ℕ → Bool) where
+  highest-yes : (i : ℕ) → 0 < i → test (i - 1) ≡ true → highest test i ≡ At (i - 1)
+  unfolding highest
+  highest-yes zero h e = absurd (omega arith)
+  highest-yes (suc n) h e = let one : suc n - 1 ≡ n = omega arith in rw (rw one at e, one)
+
+  highest-no : (i : ℕ) → 0 < i → test (i - 1) ≡ false → highest test i ≡ highest test (i - 1)
+  unfolding highest
+  highest-no zero h e = absurd (omega arith)
+  highest-no (suc n) h e = let one : suc n - 1 ≡ n = omega arith in rw (rw one at e, one)
+
+  highest-none : (n : ℕ) → ((k : ℕ) → k < n → test k ≡ false) → highest test n ≡ Nothing
+  unfolding highest
+  highest-none zero none = refl
+  highest-none (suc n) none = rw (none n (omega arith)) (highest-none n (λ k h. none k (omega arith)))
+
+  -- indices from `low` on that all fail the test make no difference
+  highest-skip : (low n : ℕ) → low ≤ n → ((k : ℕ) → low ≤ k → test k ≡ false) → highest test n ≡ highest test low
+  unfolding highest
+  highest-skip low zero h none = let z : low ≡ 0 = omega arith in rw z
+  highest-skip low (suc n) h none = by (ltb n low) refl (λ l. highest-skip low n l none)
+    where
+      by : (t : Bool) → ltb n low ≡ t → (low ≤ n → highest test n ≡ highest test low) → highest test (suc n) ≡ highest test low
+      by true e next = let z : suc n ≡ low = omega (arith, ltb-true n low e) in ap (highest test) z
+      by false e next = let l = ltb-false n low e in rw (none n l) (next l)
+
+module _ (table : Table) (entries : List ℕ) (cfg key : ℕ) where
+  outside-high : (k : ℕ) → enabledRange cfg .end ≤ k → candidate table entries cfg key k ≡ false
+  unfolding candidate
+  outside-high k h = rw (le-ltb k (enabledRange cfg .end) h, and-false)
+
+  outside-low : (k : ℕ) → k < enabledRange cfg .first → candidate table entries cfg key k ≡ false
+  unfolding candidate
+  outside-low k h = rw (lt-leb (enabledRange cfg .first) k h)
+
+  inside : (k : ℕ) → enabledRange cfg .first ≤ k → k < enabledRange cfg .end → candidate table entries cfg key k ≡ answers table key (getD entries k 0)
+  unfolding candidate
+  inside k l h = rw (le-leb (enabledRange cfg .first) k l, lt-ltb k (enabledRange cfg .end) h)
+
+  pub held-start : held table entries cfg key ≡ highest (candidate table entries cfg key) (enabledRange cfg .end)
+  unfolding held
+  held-start = highest-skip (candidate table entries cfg key) (enabledRange cfg .end) 16 (end-low cfg) outside-high
+
+  pub held-none : (i : ℕ) → i ≤ enabledRange cfg .first → highest (candidate table entries cfg key) i ≡ Nothing
+  held-none i h = highest-none (candidate table entries cfg key) i (λ k l. outside-low k (omega arith))
+
+  module _ (i : ℕ) (above : enabledRange cfg .first < i) (below : i ≤ enabledRange cfg .end) where
+    pub held-yes : answers table key (getD entries (i - 1) 0) ≡ true → highest (candidate table entries cfg key) i ≡ At (i - 1)
+    held-yes e = highest-yes (candidate table entries cfg key) i (omega arith) (inside (i - 1) (omega arith) (omega arith) ∙ e)
+
+    pub held-no : answers table key (getD entries (i - 1) 0) ≡ false → highest (candidate table entries cfg key) i ≡ highest (candidate table entries cfg key) (i - 1)
+    held-no e = highest-no (candidate table entries cfg key) i (omega arith) (inside (i - 1) (omega arith) (omega arith) ∙ e)

@@ -1,0 +1,42 @@
+-- The enabled range, as the code computes it and as the search uses it.
+use Prim.Native.Nat.{ℕ, zero, suc, _+_, _*_, _/_, _%_, _^_, _≤_, _<_, min}
+use mathlib.Core.Path.{_≡_, refl}
+use mathlib.Core.Bool.{Bool, true, false, cond}
+use lib.Dec.{eqb}
+use native.Mathlib.Nat.{div-one}
+use native.Mathlib.Omega.{arith}
+use borrow.Author.Tests.{eq-eqb, ne-eqb}
+use Rattle.tables.specs.declared.enabled.Range.{Range}
+use Rattle.tables.specs.Enabled.{enabledRange}
+
+-- a size is below 4, so that nothing is lost of its power of two
+pub power : (s : ℕ) → s < 4 → 2 * 2 ^ s % 18446744073709551616 ≡ 2 ^ (s + 1)
+power zero h = refl
+power (suc zero) h = refl
+power (suc (suc zero)) h = refl
+power (suc (suc (suc zero))) h = refl
+power (suc (suc (suc (suc s)))) h = absurd (omega arith)
+
+pub power-low : (s : ℕ) → s < 4 → 2 * 2 ^ s % 18446744073709551616 ≤ 16
+power-low zero h = omega arith
+power-low (suc zero) h = omega arith
+power-low (suc (suc zero)) h = omega arith
+power-low (suc (suc (suc zero))) h = omega arith
+power-low (suc (suc (suc (suc s)))) h = absurd (omega arith)
+
+module _ (cfg : ℕ) where
+  pub range-none : cfg ≡ 31 → record { first = 2 * (cfg % 8); end = 2 * (cfg % 8) } ≡ enabledRange cfg
+  unfolding enabledRange
+  range-none e = rw (eq-eqb cfg 31 e, div-one)
+
+  pub range-some : (end : ℕ) → (cfg ≡ 31 → ⊥) → end ≡ min 16 (2 * (cfg % 8) + 2 ^ (cfg / 8 % 4 + 1)) → record { first = 2 * (cfg % 8); end = end } ≡ enabledRange cfg
+  unfolding enabledRange
+  range-some end n e = rw (ne-eqb cfg 31 n, div-one, e)
+
+  pub end-low : enabledRange cfg .end ≤ 16
+  unfolding enabledRange
+  end-low = by (eqb cfg 31)
+    where
+      by : (t : Bool) → cond t (2 * (cfg / 1 % 8)) (min 16 (2 * (cfg / 1 % 8) + 2 ^ (cfg / 8 % 4 + 1))) ≤ 16
+      by true = omega arith
+      by false = omega arith

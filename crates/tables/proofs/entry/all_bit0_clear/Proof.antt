@@ -1,0 +1,54 @@
+use Prim.Native.Nat.{_≤_, _-_}
+use mathlib.Core.Path.{_≡_, refl}
+use native.Mathlib.Nat.{div-one}
+use native.Mathlib.Numerals.{add-one}
+use borrow.Author.Needs.{needs}
+use native.Mathlib.Omega.{arith}
+use Rattle.tables.specs.Entry.{clearBelow}
+use Rattle.tables.proofs.entry.all_bit0_clear.Statement.{statement}
+use Rattle.tables.proofs.entry.all_bit0_clear.Tie as tie
+
+abbrev Inv-loop : tie.InvT-loop
+Inv-loop entries clear₀ i₀ clear i = (i ≤ 16) × (clear ≡ clearBelow i entries)
+
+abbrev μ-loop : tie.MeasureT-loop
+μ-loop entries clear₀ i₀ clear i = 16 - i
+
+loop-holds : tie.Need-loop-holds Inv-loop μ-loop
+unfolding clearBelow
+loop-holds c = (search needs, refl)
+
+mul-clear : tie.Need-mul-clear Inv-loop μ-loop
+mul-clear c = search needs
+
+element-copy-out-clear : tie.Need-element-copy-out-clear Inv-loop μ-loop
+element-copy-out-clear c = search needs
+
+add-i : tie.Need-add-i Inv-loop μ-loop
+add-i c = search needs
+
+loop-less : tie.Need-loop-less Inv-loop μ-loop
+loop-less c = search needs
+
+loop-again : tie.Need-loop-again Inv-loop μ-loop
+unfolding clearBelow
+loop-again c = (omega arith, rw (add-one, div-one, c .before .before .loop .inv .1))
+
+returns : tie.Need-returns Inv-loop μ-loop
+returns c =
+    let all : c .before .loop .i ≡ 16 = omega arith in
+    rw all at (c .before .loop .inv .1)
+
+pub all-bit0-clear-spec : {M : Type 1} → statement M
+all-bit0-clear-spec =
+    tie.close
+    (tie.spec
+    Inv-loop
+    μ-loop
+    loop-holds
+    mul-clear
+    element-copy-out-clear
+    add-i
+    loop-less
+    loop-again
+    returns)

@@ -1,0 +1,91 @@
+use Rattle.tables.proofs.Highest.{held-start, held-yes, held-no, held-none}
+use Rattle.tables.proofs.Ranges.{end-low}
+use Rattle.tables.specs.Enabled.{enabled, enabledRange}
+use Rattle.tables.specs.Search.{answers, candidate, highest, held}
+use lib.ListN.{getD}
+use mathlib.Core.Bool.{_&&_}
+use mathlib.Core.Path.{_≡_, refl, sym, _∙_}
+use Prim.Native.Nat.{_≤_, _<_, _-_}
+use native.Mathlib.Omega.{arith}
+use borrow.Author.Needs.{needs}
+use Rattle.tables.proofs.search.held_for.Statement.{statement}
+use Rattle.tables.proofs.search.held_for.Tie as tie
+use Rattle.tables.proofs.search.held_for.Reads as reads
+use Rattle.tables.proofs.search.held_for.Lts as lts
+use Rattle.tables.proofs.enabled.enabled_range.Reads as enabled-range-reads
+use Rattle.tables.proofs.search.entry_answers.Reads as entry-answers-reads
+
+abbrev Inv-loop : tie.InvT-loop
+Inv-loop table entries cfg key first i₀ i = (i ≤ enabledRange cfg .end) × (held table entries cfg key ≡ highest (candidate table entries cfg key) i)
+
+abbrev μ-loop : tie.MeasureT-loop
+μ-loop table entries cfg key first i₀ i = i
+
+-- src/search.rt:37:9
+enabled-range-requires : tie.Need-enabled-range-requires Inv-loop μ-loop
+enabled-range-requires c κs = search needs
+
+-- src/search.rt:40:5
+loop-holds : tie.Need-loop-holds Inv-loop μ-loop
+loop-holds c =
+    let e = c .enabled-range .ensures in
+    (rw e (omega arith), rw e (held-start _ _ _ _))
+
+-- src/search.rt:41:9
+sub-i : tie.Need-sub-i Inv-loop μ-loop
+sub-i c = search needs
+
+-- src/search.rt:42:38
+mul-entry-answers : tie.Need-mul-entry-answers Inv-loop μ-loop
+mul-entry-answers c = omega (arith, end-low (c .before .before .before .args .cfg))
+
+-- src/search.rt:42:38
+element-copy-out-entry-answers : tie.Need-element-copy-out-entry-answers Inv-loop μ-loop
+element-copy-out-entry-answers c = omega (arith, end-low (c .before .before .before .args .cfg))
+
+-- src/search.rt:42:12
+entry-answers-requires : tie.Need-entry-answers-requires Inv-loop μ-loop
+entry-answers-requires c κs = search needs
+
+-- src/search.rt:43:13
+returns : tie.Need-returns Inv-loop μ-loop
+returns c =
+    let a = c .before .before .before .before in
+    let e = a .before .enabled-range .ensures in
+    sym (a .loop .inv .1 ∙ held-yes _ _ _ _ (a .loop .i) (rw e at (c .before .before .before .loop-test .taken)) (a .loop .inv .0) (sym (c .before .entry-answers .ensures) ∙ c .if1 .taken))
+
+-- src/search.rt:40:5
+loop-less : tie.Need-loop-less Inv-loop μ-loop
+loop-less c = search needs
+
+-- src/search.rt:40:5
+loop-again : tie.Need-loop-again Inv-loop μ-loop
+loop-again c =
+    let a = c .before .before .before .before in
+    let e = a .before .enabled-range .ensures in (
+      omega arith,
+      a .loop .inv .1 ∙ held-no _ _ _ _ (a .loop .i) (rw e at (c .before .before .before .loop-test .taken)) (a .loop .inv .0) (sym (c .before .entry-answers .ensures) ∙ c .if1 .left),
+    )
+
+-- src/search.rt:34:1
+returns-2 : tie.Need-returns-2 Inv-loop μ-loop
+returns-2 c =
+    let e = c .before .before .enabled-range .ensures in
+    sym (c .before .loop .inv .1 ∙ held-none _ _ _ _ (c .before .loop .i) (rw e at (c .loop-test .left)))
+
+pub held-for-spec : {M : Type 1} → statement M
+held-for-spec =
+    tie.close
+    (tie.spec
+    Inv-loop
+    μ-loop
+    enabled-range-requires
+    loop-holds
+    sub-i
+    mul-entry-answers
+    element-copy-out-entry-answers
+    entry-answers-requires
+    returns
+    loop-less
+    loop-again
+    returns-2)

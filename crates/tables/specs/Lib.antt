@@ -1,0 +1,5 @@
+pub mod Bits
+pub mod Enabled
+pub mod Entry
+pub mod Search
+pub mod State

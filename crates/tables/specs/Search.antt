@@ -1,0 +1,30 @@
+-- The entry that holds for a key.
+use Prim.Native.Nat.{ℕ, zero, suc}
+use mathlib.Core.Bool.{Bool, cond, _&&_}
+use mathlib.Core.List.{List}
+use lib.Dec.{eqb}
+use lib.ListN.{getD}
+use Rattle.tables.specs.declared.search.Table.{Table}
+use Rattle.tables.specs.declared.search.Table.the-variants.{Register, Predicate}
+use Rattle.tables.specs.declared.search.Held.{Held}
+use Rattle.tables.specs.declared.search.Held.the-variants.{At, Nothing}
+use Rattle.tables.specs.Enabled.{enabled}
+use Rattle.tables.specs.Entry.{registerEntry, predicateEntry}
+
+-- An entry whose integer bit is 0 is ignored; the empty entry, zero, is one of those.
+unfoldable pub answers : Table → ℕ → ℕ → Bool
+answers Register key word = registerEntry word .integer && eqb (registerEntry word .key) key
+answers Predicate key word = predicateEntry word .integer && eqb (predicateEntry word .key) key
+
+-- An entry outside the enabled range does not exist for the search.
+unfoldable pub candidate : Table → List ℕ → ℕ → ℕ → ℕ → Bool
+candidate table entries cfg key i = enabled cfg i && answers table key (getD entries i 0)
+
+-- the highest index below n that passes a test
+unfoldable pub highest : (ℕ → Bool) → ℕ → Held
+highest test zero = Nothing
+highest test (suc n) = cond (test n) (At n) (highest test n)
+
+-- Of several enabled entries with one key the highest index holds.
+unfoldable pub held : Table → List ℕ → ℕ → ℕ → Held
+held table entries cfg key = highest (candidate table entries cfg key) 16

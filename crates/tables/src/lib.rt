@@ -1,0 +1,5 @@
+// The two tables and the state word: entries, what a CFG enables, the entry that holds for a key.
+pub mod enabled;
+pub mod entry;
+pub mod search;
+pub mod state;
