@@ -1,7 +1,7 @@
 // The state word and its fields.
 ghost use mathlib.Core.Path.{_≡_};
 ghost use Prim.Native.Nat.{_-_};
-ghost use Rattle.tables.specs.State.{stateFields, wordOf, topClear};
+ghost use Rattle.tables.specs.State.{stateFields, wordOf};
 
 pub struct StateFields {
     pub mvl: u32,
@@ -15,13 +15,6 @@ fn less_one(n: u32) -> u32
     ensures { λ r. ⌜ r ≡ n - 1 ⌝ }
 {
     if n < 1 { 0 } else { n - 1 }
-}
-
-// Whether bits 31..29 of a state word are zero.
-pub fn top_clear(word: u32) -> bool
-    ensures { λ r. ⌜ r ≡ topClear word ⌝ }
-{
-    word / 536870912 % 8 == 0
 }
 
 impl StateFields {

@@ -1,0 +1,37 @@
+-- The table "What a call says": the number of each answer, and the value returned with it.
+use Prim.Native.Nat.{ℕ}
+use Rattle.machine.specs.declared.answer.Answer.{Answer}
+use Rattle.machine.specs.declared.answer.Answer.the-variants.{
+  Done,
+  Paused,
+  UnknownWord,
+  PastRegisters,
+  BadWidth,
+  Fault,
+  OutOfShape,
+  BadValue,
+  NoSuchPlace,
+}
+
+abbrev pub numberOf : Answer → ℕ
+numberOf (Done value) = 0
+numberOf Paused = 1
+numberOf UnknownWord = 2
+numberOf PastRegisters = 3
+numberOf BadWidth = 4
+numberOf (Fault address) = 5
+numberOf OutOfShape = 6
+numberOf BadValue = 7
+numberOf NoSuchPlace = 8
+
+-- the value of an accepted call, the address of a fault, and otherwise 0
+abbrev pub valueOf : Answer → ℕ
+valueOf (Done value) = value
+valueOf Paused = 0
+valueOf UnknownWord = 0
+valueOf PastRegisters = 0
+valueOf BadWidth = 0
+valueOf (Fault address) = address
+valueOf OutOfShape = 0
+valueOf BadValue = 0
+valueOf NoSuchPlace = 0

@@ -1,0 +1,6 @@
+pub mod Answer
+pub mod Shape
+pub mod Update
+pub mod Calls
+pub mod Setting
+pub mod Reading

@@ -1,0 +1,39 @@
+-- The calls that read one thing out. Each changes nothing.
+use Prim.Native.Nat.{ℕ}
+use lib.ListN.{getD}
+use Rattle.tables.specs.declared.state.StateFields.{StateFields}
+use Rattle.tables.specs.State.{wordOf}
+use Rattle.machine.specs.declared.Machine.{Machine}
+use Rattle.machine.specs.declared.answer.Reply.{Reply}
+use Rattle.machine.specs.Calls.{done, shaped, placed}
+
+unfoldable pub told : Machine → ℕ → Reply
+told m value = shaped m (done m value)
+
+abbrev pub readVl : Machine → Reply
+readVl m = told m (m .vl)
+
+abbrev pub readMvl : Machine → Reply
+readMvl m = told m (m .mvl)
+
+abbrev pub readCfg : Machine → Reply
+readCfg m = told m (m .cfg)
+
+abbrev pub readPc : Machine → Reply
+readPc m = told m (m .pc)
+
+-- the machine's fields of the state word
+abbrev pub fieldsOf : Machine → StateFields
+fieldsOf m = record { mvl = m .mvl; vl = m .vl; source = m .source; destination = m .destination; cfg = m .cfg }
+
+abbrev pub readStateWord : Machine → Reply
+readStateWord m = told m (wordOf (fieldsOf m))
+
+unfoldable pub readRegisterEntry : Machine → ℕ → Reply
+readRegisterEntry m i = shaped m (placed m i 16 (done m (getD (m .«register_table») i 0)))
+
+unfoldable pub readPredicateEntry : Machine → ℕ → Reply
+readPredicateEntry m i = shaped m (placed m i 16 (done m (getD (m .«predicate_table») i 0)))
+
+unfoldable pub readRegister : Machine → ℕ → Reply
+readRegister m i = shaped m (placed m i 128 (done m (getD (m .registers) i 0)))

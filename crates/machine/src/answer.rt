@@ -1,0 +1,57 @@
+// What a call says.
+ghost use mathlib.Core.Path.{_≡_};
+ghost use Rattle.machine.specs.Answer.{numberOf, valueOf};
+use crate::Machine;
+
+pub enum Answer {
+    Done(u64),
+    Paused,
+    UnknownWord,
+    PastRegisters,
+    BadWidth,
+    Fault(u64),
+    OutOfShape,
+    BadValue,
+    NoSuchPlace,
+}
+
+// An answer, and the machine after the call.
+pub struct Reply {
+    pub answer: Answer,
+    pub machine: Machine,
+}
+
+impl Answer {
+    pub fn number(self) -> u32
+        ensures { λ r. ⌜ r ≡ numberOf self ⌝ }
+    {
+        match self {
+            Answer::Done(_) => 0,
+            Answer::Paused => 1,
+            Answer::UnknownWord => 2,
+            Answer::PastRegisters => 3,
+            Answer::BadWidth => 4,
+            Answer::Fault(_) => 5,
+            Answer::OutOfShape => 6,
+            Answer::BadValue => 7,
+            Answer::NoSuchPlace => 8,
+        }
+    }
+
+    // The value of an accepted call, the address of a fault, and otherwise 0.
+    pub fn value(self) -> u64
+        ensures { λ r. ⌜ r ≡ valueOf self ⌝ }
+    {
+        match self {
+            Answer::Done(value) => value,
+            Answer::Fault(address) => address,
+            Answer::Paused => 0,
+            Answer::UnknownWord => 0,
+            Answer::PastRegisters => 0,
+            Answer::BadWidth => 0,
+            Answer::OutOfShape => 0,
+            Answer::BadValue => 0,
+            Answer::NoSuchPlace => 0,
+        }
+    }
+}

@@ -1,0 +1,81 @@
+// The machine by value, and the calls that set and read it.
+ghost use mathlib.Core.Path.{_≡_};
+ghost use Rattle.machine.specs.Shape.{freshMachine, inShape};
+ghost use Rattle.machine.specs.Calls.{refuse, done};
+use answer::Answer;
+use answer::Reply;
+use tables::entry::all_bit0_clear;
+
+pub mod answer;
+pub mod reading;
+pub mod setting;
+
+// The two tables stand last: all before them is what one hearing has of its own.
+pub struct Machine {
+    pub registers: [u64; 128],
+    pub pc: u64,
+    pub mvl: u32,
+    pub vl: u32,
+    pub cfg: u32,
+    pub source: u32,
+    pub destination: u32,
+    pub register_table: [u16; 16],
+    pub predicate_table: [u16; 16],
+}
+
+impl Machine {
+    pub const REGISTERS: usize = 128;
+
+    pub const ELEMENTS: u32 = 64;
+
+    pub const ENTRIES: usize = 16;
+
+    pub fn fresh() -> Machine
+        ensures { λ r. ⌜ r ≡ freshMachine ⌝ }
+    {
+        Machine {
+            registers: [0; Machine::REGISTERS],
+            pc: 0,
+            mvl: 1,
+            vl: 1,
+            cfg: 24,
+            source: 0,
+            destination: 0,
+            register_table: [0; Machine::ENTRIES],
+            predicate_table: [0; Machine::ENTRIES],
+        }
+    }
+
+    // Whether none of the reasons of answer 6 applies.
+    pub fn in_shape(self) -> bool
+        ensures { λ r. ⌜ r ≡ inShape self ⌝ }
+    {
+        (1 <= self.mvl)
+            & (self.mvl <= Machine::ELEMENTS)
+            & (1 <= self.vl)
+            & (self.vl <= self.mvl)
+            & (self.cfg <= 31)
+            & (self.source < self.vl)
+            & (self.destination < self.vl)
+            & (self.registers[0] == 0)
+            & all_bit0_clear(&self.predicate_table)
+    }
+
+    fn refused(self, answer: Answer) -> Reply
+        ensures { λ r. ⌜ r ≡ refuse self answer ⌝ }
+    {
+        Reply {
+            answer,
+            machine: self,
+        }
+    }
+
+    fn done(self, value: u64) -> Reply
+        ensures { λ r. ⌜ r ≡ done self value ⌝ }
+    {
+        Reply {
+            answer: Answer::Done(value),
+            machine: self,
+        }
+    }
+}
