@@ -1,7 +1,6 @@
 -- The calls that read one thing out. Each changes nothing.
 use Prim.Native.Nat.{ℕ}
 use lib.ListN.{getD}
-use Rattle.tables.specs.declared.state.StateFields.{StateFields}
 use Rattle.tables.specs.State.{wordOf}
 use Rattle.machine.specs.declared.Machine.{Machine}
 use Rattle.machine.specs.declared.answer.Reply.{Reply}
@@ -11,23 +10,19 @@ unfoldable pub told : Machine → ℕ → Reply
 told m value = shaped m (done m value)
 
 abbrev pub readVl : Machine → Reply
-readVl m = told m (m .vl)
+readVl m = told m (m .state .vl)
 
 abbrev pub readMvl : Machine → Reply
-readMvl m = told m (m .mvl)
+readMvl m = told m (m .state .mvl)
 
 abbrev pub readCfg : Machine → Reply
-readCfg m = told m (m .cfg)
+readCfg m = told m (m .state .cfg)
 
 abbrev pub readPc : Machine → Reply
 readPc m = told m (m .pc)
 
--- the machine's fields of the state word
-abbrev pub fieldsOf : Machine → StateFields
-fieldsOf m = record { mvl = m .mvl; vl = m .vl; source = m .source; destination = m .destination; cfg = m .cfg }
-
 abbrev pub readStateWord : Machine → Reply
-readStateWord m = told m (wordOf (fieldsOf m))
+readStateWord m = told m (wordOf (m .state))
 
 unfoldable pub readRegisterEntry : Machine → ℕ → Reply
 readRegisterEntry m i = shaped m (placed m i 16 (done m (getD (m .«register_table») i 0)))

@@ -1,20 +1,19 @@
 -- The calls that set one thing, as document 01's section "Setting calls" has them.
-use Prim.Native.Nat.{ℕ, _+_, min}
-use mathlib.Core.Bool.{Bool, _&&_}
-use lib.Dec.{leb, ltb}
+use Prim.Native.Nat.{ℕ, _+_}
+use mathlib.Core.Bool.{_&&_}
+use lib.Dec.{leb}
 use lib.ListN.{set}
 use Rattle.registers.specs.Written.{written}
-use Rattle.tables.specs.declared.state.StateFields.{StateFields}
 use Rattle.tables.specs.Entry.{bit0Clear}
-use Rattle.tables.specs.State.{stateFields, topClear}
+use Rattle.tables.specs.State.{withVl, withMvl, withCfg, fields, cut, goodWord}
 use Rattle.machine.specs.declared.Machine.{Machine}
 use Rattle.machine.specs.declared.answer.Reply.{Reply}
 use Rattle.machine.specs.Calls.{done, shaped, placed, valued}
 use Rattle.machine.specs.Update.{withRegisters, withPc, withState, withRegisterTable, withPredicateTable}
 
--- VL becomes min(n, MVL), which is returned, and both offsets 0
+-- the new VL is returned
 abbrev pub vlSet : Machine → ℕ → Reply
-vlSet m n = done (withState m (m .mvl) (min n (m .mvl)) (m .cfg) 0 0) (min n (m .mvl))
+vlSet m n = done (withState m (withVl (m .state) n)) (withVl (m .state) n .vl)
 
 -- plain form: n from 1
 unfoldable pub setVl : Machine → ℕ → Reply
@@ -24,13 +23,13 @@ setVl m n = shaped m (valued m (leb 1 n) (vlSet m n))
 unfoldable pub setVlImmediate : Machine → ℕ → Reply
 setVlImmediate m n = shaped m (valued m (leb n 31) (vlSet m (n + 1)))
 
--- 1 to 64; VL becomes min(VL, MVL), and both offsets 0
+-- 1 to 64
 unfoldable pub setMvl : Machine → ℕ → Reply
-setMvl m n = shaped m (valued m (leb 1 n && leb n 64) (done (withState m n (min (m .vl) n) (m .cfg) 0 0) 0))
+setMvl m n = shaped m (valued m (leb 1 n && leb n 64) (done (withState m (withMvl (m .state) n)) 0))
 
+-- 0 to 31
 unfoldable pub setCfg : Machine → ℕ → Reply
-setCfg m n =
-    shaped m (valued m (leb n 31) (done (withState m (m .mvl) (m .vl) n (m .source) (m .destination)) 0))
+setCfg m n = shaped m (valued m (leb n 31) (done (withState m (withCfg (m .state) n)) 0))
 
 unfoldable pub setRegisterEntry : Machine → ℕ → ℕ → Reply
 setRegisterEntry m i entry =
@@ -47,18 +46,6 @@ setRegister m i value = shaped m (placed m i 128 (done (withRegisters m (written
 unfoldable pub setPc : Machine → ℕ → Reply
 setPc m pc = shaped m (done (withPc m pc) 0)
 
--- the VL that a state word sets: min(VL, MVL)
-abbrev pub cutVl : StateFields → ℕ
-cutVl s = min (s .vl) (s .mvl)
-
--- a state word is good when bits 31..29 are zero and both offsets are below the cut VL
-abbrev pub goodState : ℕ → Bool
-goodState word =
-    topClear word && ltb (stateFields word .source) (cutVl (stateFields word))
-    && ltb (stateFields word .destination) (cutVl (stateFields word))
-
-abbrev pub withFields : Machine → StateFields → Machine
-withFields m s = withState m (s .mvl) (cutVl s) (s .cfg) (s .source) (s .destination)
-
+-- MVL, then VL as min(VL, MVL), then offsets, then CFG
 unfoldable pub setStateWord : Machine → ℕ → Reply
-setStateWord m word = shaped m (valued m (goodState word) (done (withFields m (stateFields word)) 0))
+setStateWord m word = shaped m (valued m (goodWord word) (done (withState m (cut (fields word))) 0))

@@ -2,9 +2,10 @@
 use Prim.Native.Nat.{ℕ}
 use mathlib.Core.Path.{_≡_}
 use mathlib.Core.Bool.{Bool, _&&_}
-use lib.Dec.{leb, ltb, eqb}
+use lib.Dec.{eqb}
 use lib.ListN.{length, getD, replicate}
 use Rattle.tables.specs.Entry.{allBit0Clear}
+use Rattle.tables.specs.State.{stateInShape}
 use Rattle.machine.specs.declared.Machine.{Machine}
 
 -- MVL 1, VL 1, CFG 24 and all else zero
@@ -12,20 +13,14 @@ abbrev pub freshMachine : Machine
 freshMachine = record {
   registers = replicate 128 0;
   pc = 0;
-  mvl = 1;
-  vl = 1;
-  cfg = 24;
-  source = 0;
-  destination = 0;
+  state = record { mvl = 1; vl = 1; cfg = 24; source = 0; destination = 0 };
   «register_table» = replicate 16 0;
   «predicate_table» = replicate 16 0;
 }
 
--- MVL 1 to 64, VL 1 to MVL, CFG 0 to 31, both offsets below VL, register 0 is 0
+-- What one hearing has of its own: the ranges of the state, and register 0, which is 0.
 unfoldable pub roomInShape : Machine → Bool
-roomInShape m =
-    leb 1 (m .mvl) && leb (m .mvl) 64 && leb 1 (m .vl) && leb (m .vl) (m .mvl) && leb (m .cfg) 31
-    && ltb (m .source) (m .vl) && ltb (m .destination) (m .vl) && eqb (getD (m .registers) 0 0) 0
+roomInShape m = stateInShape (m .state) && eqb (getD (m .registers) 0 0) 0
 
 -- bit 0 of all 16 predicate entries is zero
 unfoldable pub tablesInShape : Machine → Bool

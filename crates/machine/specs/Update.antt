@@ -1,18 +1,15 @@
 -- A machine with some of its fields replaced.
 use Prim.Native.Nat.{ℕ}
 use mathlib.Core.List.{List}
+use Rattle.tables.specs.declared.state.State.{State}
 use Rattle.machine.specs.declared.Machine.{Machine}
 
 -- what one hearing has of its own, as given
-abbrev pub withRoom : Machine → List ℕ → ℕ → ℕ → ℕ → ℕ → ℕ → ℕ → Machine
-withRoom m registers pc mvl vl cfg source destination = record {
+abbrev pub withRoom : Machine → List ℕ → ℕ → State → Machine
+withRoom m registers pc state = record {
   registers = registers;
   pc = pc;
-  mvl = mvl;
-  vl = vl;
-  cfg = cfg;
-  source = source;
-  destination = destination;
+  state = state;
   «register_table» = m .«register_table»;
   «predicate_table» = m .«predicate_table»;
 }
@@ -22,24 +19,19 @@ abbrev pub withTables : Machine → List ℕ → List ℕ → Machine
 withTables m registerTable predicateTable = record {
   registers = m .registers;
   pc = m .pc;
-  mvl = m .mvl;
-  vl = m .vl;
-  cfg = m .cfg;
-  source = m .source;
-  destination = m .destination;
+  state = m .state;
   «register_table» = registerTable;
   «predicate_table» = predicateTable;
 }
 
 abbrev pub withRegisters : Machine → List ℕ → Machine
-withRegisters m registers = withRoom m registers (m .pc) (m .mvl) (m .vl) (m .cfg) (m .source) (m .destination)
+withRegisters m registers = withRoom m registers (m .pc) (m .state)
 
 abbrev pub withPc : Machine → ℕ → Machine
-withPc m pc = withRoom m (m .registers) pc (m .mvl) (m .vl) (m .cfg) (m .source) (m .destination)
+withPc m pc = withRoom m (m .registers) pc (m .state)
 
--- the five fields of the state word
-abbrev pub withState : Machine → ℕ → ℕ → ℕ → ℕ → ℕ → Machine
-withState m mvl vl cfg source destination = withRoom m (m .registers) (m .pc) mvl vl cfg source destination
+abbrev pub withState : Machine → State → Machine
+withState m state = withRoom m (m .registers) (m .pc) state
 
 abbrev pub withRegisterTable : Machine → List ℕ → Machine
 withRegisterTable m entries = withTables m entries (m .«predicate_table»)

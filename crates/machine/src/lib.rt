@@ -5,6 +5,7 @@ ghost use Rattle.machine.specs.Calls.{refuse, done};
 use answer::Answer;
 use answer::Reply;
 use tables::entry::all_bit0_clear;
+use tables::state::State;
 
 pub mod answer;
 pub mod reading;
@@ -14,11 +15,7 @@ pub mod setting;
 pub struct Machine {
     pub registers: [u64; 128],
     pub pc: u64,
-    pub mvl: u32,
-    pub vl: u32,
-    pub cfg: u32,
-    pub source: u32,
-    pub destination: u32,
+    pub state: State,
     pub register_table: [u16; 16],
     pub predicate_table: [u16; 16],
 }
@@ -33,14 +30,17 @@ impl Machine {
     pub fn fresh() -> Machine
         ensures { λ r. ⌜ r ≡ freshMachine ⌝ }
     {
-        Machine {
-            registers: [0; Machine::REGISTERS],
-            pc: 0,
+        let state = State {
             mvl: 1,
             vl: 1,
             cfg: 24,
             source: 0,
             destination: 0,
+        };
+        Machine {
+            registers: [0; Machine::REGISTERS],
+            pc: 0,
+            state,
             register_table: [0; Machine::ENTRIES],
             predicate_table: [0; Machine::ENTRIES],
         }
@@ -50,15 +50,8 @@ impl Machine {
     pub fn in_shape(self) -> bool
         ensures { λ r. ⌜ r ≡ inShape self ⌝ }
     {
-        (1 <= self.mvl)
-            & (self.mvl <= Machine::ELEMENTS)
-            & (1 <= self.vl)
-            & (self.vl <= self.mvl)
-            & (self.cfg <= 31)
-            & (self.source < self.vl)
-            & (self.destination < self.vl)
-            & (self.registers[0] == 0)
-            & all_bit0_clear(&self.predicate_table)
+        let state = self.state;
+        state.in_shape() & (self.registers[0] == 0) & all_bit0_clear(&self.predicate_table)
     }
 
     fn refused(self, answer: Answer) -> Reply

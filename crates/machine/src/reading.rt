@@ -1,10 +1,12 @@
 // The calls that read one thing out. They change nothing, and refuse 6 and 8 only.
 ghost use mathlib.Core.Path.{_≡_};
+ghost use Prim.Native.Nat.{_<_};
+ghost use lib.ListN.{getD};
 ghost use Rattle.machine.specs.Reading.{told, readVl, readMvl, readCfg, readRegisterEntry, readPredicateEntry, readRegister, readPc, readStateWord};
 use crate::Machine;
 use crate::answer::Answer;
 use crate::answer::Reply;
-use tables::state::StateFields;
+use tables::entry::entry_at;
 
 impl Machine {
     // A value that every machine in shape has.
@@ -20,19 +22,19 @@ impl Machine {
     pub fn read_vl(self) -> Reply
         ensures { λ r. ⌜ r ≡ readVl self ⌝ }
     {
-        self.told(self.vl as u64)
+        self.told(self.state.vl as u64)
     }
 
     pub fn read_mvl(self) -> Reply
         ensures { λ r. ⌜ r ≡ readMvl self ⌝ }
     {
-        self.told(self.mvl as u64)
+        self.told(self.state.mvl as u64)
     }
 
     pub fn read_cfg(self) -> Reply
         ensures { λ r. ⌜ r ≡ readCfg self ⌝ }
     {
-        self.told(self.cfg as u64)
+        self.told(self.state.cfg as u64)
     }
 
     pub fn read_pc(self) -> Reply
@@ -44,14 +46,8 @@ impl Machine {
     pub fn read_state_word(self) -> Reply
         ensures { λ r. ⌜ r ≡ readStateWord self ⌝ }
     {
-        let fields = StateFields {
-            mvl: self.mvl,
-            vl: self.vl,
-            source: self.source,
-            destination: self.destination,
-            cfg: self.cfg,
-        };
-        self.told(fields.word() as u64)
+        let state = self.state;
+        self.told(state.word() as u64)
     }
 
     pub fn read_register_entry(self, index: u32) -> Reply
@@ -60,11 +56,11 @@ impl Machine {
         if !self.in_shape() {
             return self.refused(Answer::OutOfShape);
         }
-        let i = index as usize;
-        if Machine::ENTRIES <= i {
+        if Machine::ENTRIES <= index as usize {
             return self.refused(Answer::NoSuchPlace);
         }
-        self.done(self.register_table[i] as u64)
+        let entries = self.register_table;
+        self.done(entry_at(entries, index) as u64)
     }
 
     pub fn read_predicate_entry(self, index: u32) -> Reply
@@ -73,11 +69,18 @@ impl Machine {
         if !self.in_shape() {
             return self.refused(Answer::OutOfShape);
         }
-        let i = index as usize;
-        if Machine::ENTRIES <= i {
+        if Machine::ENTRIES <= index as usize {
             return self.refused(Answer::NoSuchPlace);
         }
-        self.done(self.predicate_table[i] as u64)
+        let entries = self.predicate_table;
+        self.done(entry_at(entries, index) as u64)
+    }
+
+    fn register_at(self, index: u32) -> u64
+        requires { ⌜ index < 128 ⌝ }
+        ensures { λ r. ⌜ r ≡ getD (self .registers) index 0 ⌝ }
+    {
+        self.registers[index as usize]
     }
 
     pub fn read_register(self, index: u32) -> Reply
@@ -86,10 +89,9 @@ impl Machine {
         if !self.in_shape() {
             return self.refused(Answer::OutOfShape);
         }
-        let i = index as usize;
-        if Machine::REGISTERS <= i {
+        if Machine::REGISTERS <= index as usize {
             return self.refused(Answer::NoSuchPlace);
         }
-        self.done(self.registers[i])
+        self.done(self.register_at(index))
     }
 }

@@ -1,27 +1,23 @@
 // The calls that set one thing. Refusals come in the order 6, 8, 7.
 ghost use mathlib.Core.Path.{_≡_};
-ghost use Prim.Native.Nat.{min};
+ghost use Rattle.registers.specs.Written.{written};
+ghost use Rattle.machine.specs.Update.{withRegisters};
 ghost use Rattle.machine.specs.Setting.{vlSet, setVl, setVlImmediate, setMvl, setCfg, setRegisterEntry, setPredicateEntry, setRegister, setPc, setStateWord};
 use crate::Machine;
 use crate::answer::Answer;
 use crate::answer::Reply;
-use tables::state::StateFields;
-
-fn least(n: u64, most: u32) -> u32
-    ensures { λ r. ⌜ r ≡ min n most ⌝ }
-{
-    if n < (most as u64) { n as u32 } else { most }
-}
+use tables::entry::with_entry;
+use tables::state::State;
+use tables::state::good_word;
 
 impl Machine {
     fn vl_set(mut self, n: u64) -> Reply
         ensures { λ r. ⌜ r ≡ vlSet self n ⌝ }
     {
-        let vl = least(n, self.mvl);
-        self.vl = vl;
-        self.source = 0;
-        self.destination = 0;
-        self.done(vl as u64)
+        let old = self.state;
+        let state = old.with_vl(n);
+        self.state = state;
+        self.done(state.vl as u64)
     }
 
     pub fn set_vl(self, n: u64) -> Reply
@@ -60,11 +56,9 @@ impl Machine {
         if Machine::ELEMENTS < n {
             return self.refused(Answer::BadValue);
         }
-        let vl = least(self.vl as u64, n);
-        self.mvl = n;
-        self.vl = vl;
-        self.source = 0;
-        self.destination = 0;
+        let old = self.state;
+        let state = old.with_mvl(n);
+        self.state = state;
         self.done(0)
     }
 
@@ -77,7 +71,7 @@ impl Machine {
         if 31 < n {
             return self.refused(Answer::BadValue);
         }
-        self.cfg = n;
+        self.state.cfg = n;
         self.done(0)
     }
 
@@ -87,11 +81,12 @@ impl Machine {
         if !self.in_shape() {
             return self.refused(Answer::OutOfShape);
         }
-        let i = index as usize;
-        if Machine::ENTRIES <= i {
+        if Machine::ENTRIES <= index as usize {
             return self.refused(Answer::NoSuchPlace);
         }
-        self.register_table[i] = entry;
+        let old = self.register_table;
+        let entries = with_entry(old, index, entry);
+        self.register_table = entries;
         self.done(0)
     }
 
@@ -101,29 +96,35 @@ impl Machine {
         if !self.in_shape() {
             return self.refused(Answer::OutOfShape);
         }
-        let i = index as usize;
-        if Machine::ENTRIES <= i {
+        if Machine::ENTRIES <= index as usize {
             return self.refused(Answer::NoSuchPlace);
         }
         if entry % 2 == 1 {
             return self.refused(Answer::BadValue);
         }
-        self.predicate_table[i] = entry;
+        let old = self.predicate_table;
+        let entries = with_entry(old, index, entry);
+        self.predicate_table = entries;
         self.done(0)
     }
 
-    pub fn set_register(mut self, index: u32, value: u64) -> Reply
+    fn with_register(mut self, index: u32, value: u64) -> Machine
+        ensures { λ r. ⌜ r ≡ withRegisters self (written (self .registers) index value) ⌝ }
+    {
+        registers::write(&mut self.registers, index as usize, value);
+        self
+    }
+
+    pub fn set_register(self, index: u32, value: u64) -> Reply
         ensures { λ r. ⌜ r ≡ setRegister self index value ⌝ }
     {
         if !self.in_shape() {
             return self.refused(Answer::OutOfShape);
         }
-        let i = index as usize;
-        if Machine::REGISTERS <= i {
+        if Machine::REGISTERS <= index as usize {
             return self.refused(Answer::NoSuchPlace);
         }
-        registers::write(&mut self.registers, i, value);
-        self.done(0)
+        self.with_register(index, value).done(0)
     }
 
     pub fn set_pc(mut self, pc: u64) -> Reply
@@ -142,22 +143,11 @@ impl Machine {
         if !self.in_shape() {
             return self.refused(Answer::OutOfShape);
         }
-        if word / 536870912 % 8 != 0 {
+        if !good_word(word) {
             return self.refused(Answer::BadValue);
         }
-        let fields = StateFields::of(word);
-        let vl = least(fields.vl as u64, fields.mvl);
-        if vl <= fields.source {
-            return self.refused(Answer::BadValue);
-        }
-        if vl <= fields.destination {
-            return self.refused(Answer::BadValue);
-        }
-        self.mvl = fields.mvl;
-        self.vl = vl;
-        self.source = fields.source;
-        self.destination = fields.destination;
-        self.cfg = fields.cfg;
+        let state = State::of_word(word).cut();
+        self.state = state;
         self.done(0)
     }
 }

@@ -1,5 +1,6 @@
 // The words of the two tables, taken apart.
 ghost use mathlib.Core.Path.{_≡_};
+ghost use lib.ListN.{getD, set};
 ghost use Rattle.tables.specs.Entry.{registerEntry, predicateEntry, allBit0Clear};
 
 pub struct RegisterEntry {
@@ -57,4 +58,25 @@ pub fn all_bit0_clear(entries: &[u16; 16]) -> bool
         i += 1;
     }
     clear
+}
+
+// The entry at an index, and 0 where there is none.
+pub fn entry_at(entries: [u16; 16], index: u32) -> u16
+    ensures { λ r. ⌜ r ≡ getD entries index 0 ⌝ }
+{
+    if 16 <= index {
+        return 0;
+    }
+    entries[index as usize]
+}
+
+// The table with one entry replaced.
+pub fn with_entry(mut entries: [u16; 16], index: u32, entry: u16) -> [u16; 16]
+    ensures { λ r. ⌜ r ≡ set entries index entry ⌝ }
+{
+    if 16 <= index {
+        return entries;
+    }
+    entries[index as usize] = entry;
+    entries
 }

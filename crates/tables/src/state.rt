@@ -1,14 +1,14 @@
-// The state word and its fields.
+// The five fields of the state word, and the word itself.
 ghost use mathlib.Core.Path.{_≡_};
-ghost use Prim.Native.Nat.{_-_};
-ghost use Rattle.tables.specs.State.{stateFields, wordOf};
+ghost use Prim.Native.Nat.{_-_, min};
+ghost use Rattle.tables.specs.State.{fields, wordOf, cut, goodWord, withVl, withMvl, stateInShape};
 
-pub struct StateFields {
+pub struct State {
     pub mvl: u32,
     pub vl: u32,
+    pub cfg: u32,
     pub source: u32,
     pub destination: u32,
-    pub cfg: u32,
 }
 
 fn less_one(n: u32) -> u32
@@ -17,16 +17,22 @@ fn less_one(n: u32) -> u32
     if n < 1 { 0 } else { n - 1 }
 }
 
-impl StateFields {
-    pub fn of(word: u32) -> StateFields
-        ensures { λ r. ⌜ r ≡ stateFields word ⌝ }
+fn least(n: u64, most: u32) -> u32
+    ensures { λ r. ⌜ r ≡ min n most ⌝ }
+{
+    if n < (most as u64) { n as u32 } else { most }
+}
+
+impl State {
+    pub fn of_word(word: u32) -> State
+        ensures { λ r. ⌜ r ≡ fields word ⌝ }
     {
-        StateFields {
+        State {
             mvl: word % 64 + 1,
             vl: word / 64 % 64 + 1,
+            cfg: word / 16777216 % 32,
             source: word / 4096 % 64,
             destination: word / 262144 % 64,
-            cfg: word / 16777216 % 32,
         }
     }
 
@@ -39,4 +45,51 @@ impl StateFields {
             + self.destination % 64 * 262144
             + self.cfg % 32 * 16777216
     }
+
+    // VL no more than MVL.
+    pub fn cut(mut self) -> State
+        ensures { λ r. ⌜ r ≡ cut self ⌝ }
+    {
+        self.vl = least(self.vl as u64, self.mvl);
+        self
+    }
+
+    pub fn with_vl(mut self, n: u64) -> State
+        ensures { λ r. ⌜ r ≡ withVl self n ⌝ }
+    {
+        self.vl = least(n, self.mvl);
+        self.source = 0;
+        self.destination = 0;
+        self
+    }
+
+    pub fn with_mvl(mut self, n: u32) -> State
+        ensures { λ r. ⌜ r ≡ withMvl self n ⌝ }
+    {
+        self.vl = least(self.vl as u64, n);
+        self.mvl = n;
+        self.source = 0;
+        self.destination = 0;
+        self
+    }
+
+    pub fn in_shape(self) -> bool
+        ensures { λ r. ⌜ r ≡ stateInShape self ⌝ }
+    {
+        (1 <= self.mvl)
+            & (self.mvl <= 64)
+            & (1 <= self.vl)
+            & (self.vl <= self.mvl)
+            & (self.cfg <= 31)
+            & (self.source < self.vl)
+            & (self.destination < self.vl)
+    }
+}
+
+// Whether a state word can be set.
+pub fn good_word(word: u32) -> bool
+    ensures { λ r. ⌜ r ≡ goodWord word ⌝ }
+{
+    let state = State::of_word(word).cut();
+    (word / 536870912 % 8 == 0) & (state.source < state.vl) & (state.destination < state.vl)
 }

@@ -8,12 +8,6 @@ returns : tie.Need-returns
 unfolding written
 returns c = rw (lt-leb _ _ (c .if1 .taken))
 
-mul-registers : tie.Need-mul-registers
-mul-registers c = search needs
-
-element-write-registers : tie.Need-element-write-registers
-element-write-registers c = search needs
-
 returns-2 : tie.Need-returns-2
 unfolding written
 returns-2 c = rw (le-leb _ _ (c .before .if1 .left), lt-ltb _ _ (c .if2 .taken))
@@ -23,4 +17,4 @@ unfolding written
 returns-3 c = rw (le-leb _ _ (c .before .if1 .left), le-ltb _ _ (c .if2 .left))
 
 pub write-spec : {M : Type 1} → statement M
-write-spec = tie.close (tie.spec returns mul-registers element-write-registers returns-2 returns-3)
+write-spec = tie.close (tie.spec returns (λ c. search needs) (λ c. search needs) returns-2 returns-3)

@@ -1,49 +1,31 @@
 use borrow.Author.Needs.{needs}
+use borrow.Author.Tests.{le-ltb, lt-ltb}
 use Rattle.machine.specs.Reading.{readRegister}
-use Rattle.machine.proofs.Laws.{calls}
+use Rattle.machine.proofs.Laws.{fails, holds}
 use Rattle.machine.proofs.Machine.read_register.Statement.{statement}
 use Rattle.machine.proofs.Machine.read_register.Tie as tie
 
-in-shape-requires : tie.Need-in-shape-requires
-in-shape-requires c κs = search needs
-
-refused-requires : tie.Need-refused-requires
-refused-requires c κs = search needs
-
 returns : tie.Need-returns
 unfolding readRegister
-returns c = search (calls, c .refused .ensures)
-
-refused-requires-2 : tie.Need-refused-requires-2
-refused-requires-2 c κs = search needs
+returns c = rw (c .refused .ensures, fails (c .before .before .in-shape .ensures) (c .before .if1 .taken))
 
 returns-2 : tie.Need-returns-2
 unfolding readRegister
-returns-2 c = search (calls, c .refused2 .ensures)
-
-mul-done : tie.Need-mul-done
-mul-done c = search needs
-
-element-copy-out-done : tie.Need-element-copy-out-done
-element-copy-out-done c = search needs
-
-done-requires : tie.Need-done-requires
-done-requires c κs = search needs
+returns-2 c = rw (c .refused2 .ensures, holds (c .before .before .before .in-shape .ensures) (c .before .before .if1 .left), le-ltb _ _ (c .before .if2 .taken))
 
 returns-3 : tie.Need-returns-3
 unfolding readRegister
-returns-3 c = search (calls, c .done .ensures)
+returns-3 c = rw (c .done .ensures, c .before .register-at .ensures, holds (c .before .before .before .before .in-shape .ensures) (c .before .before .before .if1 .left), lt-ltb _ _ (c .before .before .if2 .left))
 
 pub read-register-spec : {M : Type 1} → statement M
 read-register-spec =
     tie.close
     (tie.spec
-    in-shape-requires
-    refused-requires
+    (λ c κs. search needs)
+    (λ c κs. search needs)
     returns
-    refused-requires-2
+    (λ c κs. search needs)
     returns-2
-    mul-done
-    element-copy-out-done
-    done-requires
+    (λ c κs. search needs)
+    (λ c κs. search needs)
     returns-3)

@@ -18,18 +18,6 @@ loop-holds : tie.Need-loop-holds Inv-loop μ-loop
 unfolding clearBelow
 loop-holds c = (search needs, refl)
 
-mul-clear : tie.Need-mul-clear Inv-loop μ-loop
-mul-clear c = search needs
-
-element-copy-out-clear : tie.Need-element-copy-out-clear Inv-loop μ-loop
-element-copy-out-clear c = search needs
-
-add-i : tie.Need-add-i Inv-loop μ-loop
-add-i c = search needs
-
-loop-less : tie.Need-loop-less Inv-loop μ-loop
-loop-less c = search needs
-
 loop-again : tie.Need-loop-again Inv-loop μ-loop
 unfolding clearBelow
 loop-again c = (omega arith, rw (add-one, div-one, c .before .before .loop .inv .1))
@@ -46,9 +34,9 @@ all-bit0-clear-spec =
     Inv-loop
     μ-loop
     loop-holds
-    mul-clear
-    element-copy-out-clear
-    add-i
-    loop-less
+    (λ c. search needs)
+    (λ c. search needs)
+    (λ c. search needs)
+    (λ c. search needs)
     loop-again
     returns)

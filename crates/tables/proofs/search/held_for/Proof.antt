@@ -10,10 +10,6 @@ use native.Mathlib.Omega.{arith}
 use borrow.Author.Needs.{needs}
 use Rattle.tables.proofs.search.held_for.Statement.{statement}
 use Rattle.tables.proofs.search.held_for.Tie as tie
-use Rattle.tables.proofs.search.held_for.Reads as reads
-use Rattle.tables.proofs.search.held_for.Lts as lts
-use Rattle.tables.proofs.enabled.enabled_range.Reads as enabled-range-reads
-use Rattle.tables.proofs.search.entry_answers.Reads as entry-answers-reads
 
 abbrev Inv-loop : tie.InvT-loop
 Inv-loop table entries cfg key first i₀ i = (i ≤ enabledRange cfg .end) × (held table entries cfg key ≡ highest (candidate table entries cfg key) i)
@@ -21,44 +17,23 @@ Inv-loop table entries cfg key first i₀ i = (i ≤ enabledRange cfg .end) × (
 abbrev μ-loop : tie.MeasureT-loop
 μ-loop table entries cfg key first i₀ i = i
 
--- src/search.rt:37:9
-enabled-range-requires : tie.Need-enabled-range-requires Inv-loop μ-loop
-enabled-range-requires c κs = search needs
-
--- src/search.rt:40:5
 loop-holds : tie.Need-loop-holds Inv-loop μ-loop
 loop-holds c =
     let e = c .enabled-range .ensures in
     (rw e (omega arith), rw e (held-start _ _ _ _))
 
--- src/search.rt:41:9
-sub-i : tie.Need-sub-i Inv-loop μ-loop
-sub-i c = search needs
-
--- src/search.rt:42:38
 mul-entry-answers : tie.Need-mul-entry-answers Inv-loop μ-loop
 mul-entry-answers c = omega (arith, end-low (c .before .before .before .args .cfg))
 
--- src/search.rt:42:38
 element-copy-out-entry-answers : tie.Need-element-copy-out-entry-answers Inv-loop μ-loop
 element-copy-out-entry-answers c = omega (arith, end-low (c .before .before .before .args .cfg))
 
--- src/search.rt:42:12
-entry-answers-requires : tie.Need-entry-answers-requires Inv-loop μ-loop
-entry-answers-requires c κs = search needs
-
--- src/search.rt:43:13
 returns : tie.Need-returns Inv-loop μ-loop
 returns c =
     let a = c .before .before .before .before in
     let e = a .before .enabled-range .ensures in
     sym (a .loop .inv .1 ∙ held-yes _ _ _ _ (a .loop .i) (rw e at (c .before .before .before .loop-test .taken)) (a .loop .inv .0) (sym (c .before .entry-answers .ensures) ∙ c .if1 .taken))
 
--- src/search.rt:40:5
-loop-less : tie.Need-loop-less Inv-loop μ-loop
-loop-less c = search needs
-
--- src/search.rt:40:5
 loop-again : tie.Need-loop-again Inv-loop μ-loop
 loop-again c =
     let a = c .before .before .before .before in
@@ -67,7 +42,6 @@ loop-again c =
       a .loop .inv .1 ∙ held-no _ _ _ _ (a .loop .i) (rw e at (c .before .before .before .loop-test .taken)) (a .loop .inv .0) (sym (c .before .entry-answers .ensures) ∙ c .if1 .left),
     )
 
--- src/search.rt:34:1
 returns-2 : tie.Need-returns-2 Inv-loop μ-loop
 returns-2 c =
     let e = c .before .before .enabled-range .ensures in
@@ -79,13 +53,13 @@ held-for-spec =
     (tie.spec
     Inv-loop
     μ-loop
-    enabled-range-requires
+    (λ c κs. search needs)
     loop-holds
-    sub-i
+    (λ c. search needs)
     mul-entry-answers
     element-copy-out-entry-answers
-    entry-answers-requires
+    (λ c κs. search needs)
     returns
-    loop-less
+    (λ c. search needs)
     loop-again
     returns-2)

@@ -1,0 +1,12 @@
+use borrow.Author.Needs.{needs}
+use native.Mathlib.Nat.{div-one}
+use Rattle.tables.specs.State.{fields}
+use Rattle.tables.proofs.state.State.of_word.Statement.{statement}
+use Rattle.tables.proofs.state.State.of_word.Tie as tie
+
+returns : tie.Need-returns
+unfolding fields
+returns c = rw div-one
+
+pub of-word-spec : {M : Type 1} → statement M
+of-word-spec = tie.close (tie.spec (λ c. search needs) (λ c. search needs) returns)

@@ -1,0 +1,9 @@
+use borrow.Author.Needs.{needs}
+use Rattle.tables.proofs.state.State.with_vl.Statement.{statement}
+use Rattle.tables.proofs.state.State.with_vl.Tie as tie
+
+returns : tie.Need-returns
+returns c = rw (c .least .ensures)
+
+pub with-vl-spec : {M : Type 1} → statement M
+with-vl-spec = tie.close (tie.spec (λ c κs. search needs) returns)

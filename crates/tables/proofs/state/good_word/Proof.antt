@@ -1,0 +1,11 @@
+use borrow.Author.Needs.{needs}
+use Rattle.tables.specs.State.{goodWord}
+use Rattle.tables.proofs.state.good_word.Statement.{statement}
+use Rattle.tables.proofs.state.good_word.Tie as tie
+
+returns : tie.Need-returns
+unfolding goodWord
+returns c = rw (c .before .before .cut .ensures, c .before .before .before .of-word .ensures)
+
+pub good-word-spec : {M : Type 1} → statement M
+good-word-spec = tie.close (tie.spec (λ c κs. search needs) (λ c κs. search needs) returns)
