@@ -1,7 +1,7 @@
 -- The search from the highest index down.
 use Prim.Native.Nat.{ℕ, zero, suc, _+_, _-_, _≤_, _<_}
 use mathlib.Core.Path.{_≡_, refl, _∙_, sym, ap}
-use mathlib.Core.Bool.{Bool, true, false}
+use mathlib.Core.Bool.{Bool, true, false, and-false}
 use mathlib.Core.List.{List}
 use lib.Dec.{ltb}
 use lib.ListN.{getD}
@@ -14,7 +14,6 @@ use Rattle.tables.specs.declared.search.Held.{Held}
 use Rattle.tables.specs.declared.search.Held.the-variants.{At, Nothing}
 use Rattle.tables.specs.Enabled.{enabled, enabledRange}
 use Rattle.tables.specs.Search.{answers, candidate, highest, held}
-use Rattle.tables.proofs.Booleans.{and-false}
 use Rattle.tables.proofs.Ranges.{end-low}
 
 module _ (test : ℕ → Bool) where

@@ -1,3 +1,5 @@
 pub mod Booleans
+pub mod Clear
 pub mod Ranges
 pub mod Highest
+pub mod States

@@ -1,0 +1,100 @@
+-- What an accepted setting leaves is in shape, and what a refused one leaves is what came in.
+use Prim.Native.Nat.{ℕ, _+_}
+use mathlib.Core.Path.{_≡_, refl}
+use mathlib.Core.Bool.{Bool, true, false, cond, _&&_}
+use mathlib.Core.List.{List}
+use lib.Dec.{leb, ltb}
+use lib.ListN.{getD}
+use native.Mathlib.Omega.{arith}
+use borrow.Author.Tests.{leb-true}
+use Rattle.registers.proofs.Writes.{zero-kept}
+use Rattle.tables.specs.declared.state.State.{State}
+use Rattle.tables.specs.Entry.{bit0Clear, allBit0Clear}
+use Rattle.tables.specs.State.{stateInShape, goodWord}
+use Rattle.tables.proofs.Booleans.{and-left, and-right}
+use Rattle.tables.proofs.Clear.{clear-set}
+use Rattle.tables.proofs.States.{vl-kept, mvl-kept, cfg-kept, word-kept}
+use Rattle.machine.specs.declared.Machine.{Machine}
+use Rattle.machine.specs.declared.answer.Answer.{Answer}
+use Rattle.machine.specs.declared.answer.Answer.the-variants.{OutOfShape, BadValue, NoSuchPlace}
+use Rattle.machine.specs.declared.answer.Reply.{Reply}
+use Rattle.machine.specs.Answer.{numberOf}
+use Rattle.machine.specs.Calls.{refuse, done, placed, valued, shaped}
+use Rattle.machine.specs.Shape.{inShape}
+use Rattle.machine.specs.Update.{withState, withRegisters, withPc, withTables}
+use Rattle.machine.specs.Setting.{setVl, setVlImmediate, setMvl, setCfg, setRegisterEntry, setPredicateEntry, setRegister, setPc, setStateWord}
+use Rattle.machine.proofs.Shapes.{parts, in-shape}
+use Rattle.demands.specs.Setting.{Setting, vl, vlImmediate, mvl, cfg, registerEntry, predicateEntry, register, pc, stateWord, set, Accepted}
+
+-- a machine in shape stays so when one part is replaced by one in shape
+module _ (m : Machine) (h : inShape m ≡ true) where
+  pub state-kept : (s : State) → stateInShape s ≡ true → inShape (withState m s) ≡ true
+  state-kept s k =
+      let p = parts m h in
+      in-shape (withState m s) (record { state = k; zero-register = p .zero-register; tables = p .tables })
+
+  pub registers-kept : (l : List ℕ) → getD l 0 0 ≡ 0 → inShape (withRegisters m l) ≡ true
+  registers-kept l z =
+      let p = parts m h in
+      in-shape (withRegisters m l) (record { state = p .state; zero-register = z; tables = p .tables })
+
+  pub tables-kept : (l t : List ℕ) → allBit0Clear t ≡ true → inShape (withTables m l t) ≡ true
+  tables-kept l t k =
+      let p = parts m h in
+      in-shape (withTables m l t) (record { state = p .state; zero-register = p .zero-register; tables = k })
+
+  pub pc-kept : (value : ℕ) → inShape (withPc m value) ≡ true
+  pc-kept value =
+      let p = parts m h in
+      in-shape (withPc m value) (record { state = p .state; zero-register = p .zero-register; tables = p .tables })
+
+-- what is claimed of a setting call on m that gives this reply
+pub record Sound (m : Machine) (reply : Reply) : Type 0 where
+  pub accepted : Accepted reply → inShape (reply .machine) ≡ true
+  pub refused : (Accepted reply → ⊥) → reply .machine ≡ m
+
+-- a call that comes to its end is accepted
+ended : {m after : Machine} {value : ℕ} → inShape after ≡ true → Sound m (done after value)
+ended h = record { accepted = λ a. h; refused = λ r. absurd (r refl) }
+
+-- a test refuses, or the rest of the call decides
+tested :
+    {m : Machine} {reply : Reply} (answer : Answer) (test : Bool) → (numberOf answer ≡ 0 → ⊥) →
+    (test ≡ true → Sound m reply) → Sound m (cond test reply (refuse m answer))
+tested answer true refusal then = then refl
+tested answer false refusal then = record { accepted = λ a. absurd (refusal a); refused = λ r. refl }
+
+if-shaped : {m : Machine} {reply : Reply} → (inShape m ≡ true → Sound m reply) → Sound m (shaped m reply)
+if-shaped {m} = tested OutOfShape (inShape m) (λ z. omega arith)
+
+if-placed : {m : Machine} {reply : Reply} (i n : ℕ) → Sound m reply → Sound m (placed m i n reply)
+if-placed i n then = tested NoSuchPlace (ltb i n) (λ z. omega arith) (λ e. then)
+
+if-valued : {m : Machine} {reply : Reply} (good : Bool) → (good ≡ true → Sound m reply) → Sound m (valued m good reply)
+if-valued good = tested BadValue good (λ z. omega arith)
+
+pub sound : (m : Machine) (s : Setting) → Sound m (set m s)
+unfolding setVl setVlImmediate setMvl setCfg setRegisterEntry setPredicateEntry setRegister setPc setStateWord
+sound m (vl n) =
+    if-shaped (λ h. if-valued (leb 1 n)
+    (λ e. ended (state-kept m h _ (vl-kept (m .state) (parts m h .state) n (leb-true 1 n e)))))
+sound m (vlImmediate n) =
+    if-shaped (λ h. if-valued (leb n 31)
+    (λ e. ended (state-kept m h _ (vl-kept (m .state) (parts m h .state) (n + 1) (omega arith)))))
+sound m (mvl n) =
+    if-shaped (λ h. if-valued (leb 1 n && leb n 64) (λ e. ended (state-kept m h _
+    (mvl-kept (m .state) (parts m h .state) n (leb-true 1 n (and-left _ _ e)) (leb-true n 64 (and-right (leb 1 n) _ e))))))
+sound m (cfg n) =
+    if-shaped (λ h. if-valued (leb n 31)
+    (λ e. ended (state-kept m h _ (cfg-kept (m .state) (parts m h .state) n (leb-true n 31 e)))))
+sound m (registerEntry i entry) =
+    if-shaped (λ h. if-placed i 16 (ended (tables-kept m h _ _ (parts m h .tables))))
+sound m (predicateEntry i entry) =
+    if-shaped (λ h. if-placed i 16 (if-valued (bit0Clear entry)
+    (λ e. ended (tables-kept m h _ _ (clear-set (m .«predicate_table») i entry e 16 (parts m h .tables))))))
+sound m (register i value) =
+    if-shaped (λ h. if-placed i 128
+    (ended (registers-kept m h _ (zero-kept (m .registers) i value (parts m h .zero-register)))))
+sound m (pc value) = if-shaped (λ h. ended (pc-kept m h value))
+sound m (stateWord word) =
+    if-shaped (λ h. if-valued (goodWord word) (λ e. ended (state-kept m h _ (word-kept word e))))

@@ -1,0 +1,17 @@
+-- The claims about shape and refusals hold.
+use mathlib.Core.Path.{refl}
+use Rattle.tables.specs.Entry.{clearBelow}
+use Rattle.tables.specs.State.{stateInShape}
+use Rattle.machine.specs.Shape.{inShape, roomInShape, tablesInShape}
+use Rattle.demands.specs.Shape.{ShapeKept}
+use Rattle.demands.proofs.Settings.{sound}
+use Rattle.demands.proofs.Readings.{unchanged}
+
+pub shape-kept : ShapeKept
+unfolding inShape roomInShape tablesInShape stateInShape clearBelow
+shape-kept = record {
+  fresh = refl;
+  accepted = λ m s. sound m s .accepted;
+  refused = λ m s. sound m s .refused;
+  reading = unchanged;
+}

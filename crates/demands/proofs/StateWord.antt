@@ -1,0 +1,71 @@
+-- The claims about the state word hold.
+use Prim.Native.Nat.{ℕ, _+_, min}
+use mathlib.Core.Path.{_≡_, refl}
+use mathlib.Core.Bool.{Bool, true, false, cond}
+use native.Mathlib.Omega.{arith}
+use Rattle.tables.specs.Bits.{bits}
+use Rattle.tables.specs.State.{fields, wordOf, cut, goodWord}
+use Rattle.tables.proofs.States.{fields-back, cut-same, good-back, mvl-back, vl-back, rest-back, word-kept}
+use Rattle.machine.specs.declared.Machine.{Machine}
+use Rattle.machine.specs.declared.answer.Answer.{Answer}
+use Rattle.machine.specs.declared.answer.Answer.the-variants.{OutOfShape, BadValue}
+use Rattle.machine.specs.declared.answer.Reply.{Reply}
+use Rattle.machine.specs.Answer.{numberOf, valueOf}
+use Rattle.machine.specs.Calls.{refuse, done}
+use Rattle.machine.specs.Shape.{inShape}
+use Rattle.machine.specs.Update.{withState}
+use Rattle.machine.specs.Setting.{setStateWord}
+use Rattle.machine.specs.Reading.{told, readStateWord}
+use Rattle.machine.proofs.Shapes.{parts}
+use Rattle.demands.specs.Setting.{Accepted, stateWord}
+use Rattle.demands.specs.StateWord.{ReadBack, StateWordKept}
+use Rattle.demands.proofs.Settings.{sound}
+
+pub read-is : (m : Machine) → inShape m ≡ true → readStateWord m ≡ done m (wordOf (m .state))
+unfolding told
+read-is m h = rw h
+
+pub set-is :
+    (m : Machine) (word : ℕ) → inShape m ≡ true → goodWord word ≡ true →
+    setStateWord m word ≡ done (withState m (cut (fields word))) 0
+unfolding setStateWord
+set-is m word h g = rw (h, g)
+
+-- an accepted call passed each of its tests
+passed :
+    (reply : Reply) (m : Machine) (answer : Answer) (test : Bool) → (numberOf answer ≡ 0 → ⊥) →
+    Accepted (cond test reply (refuse m answer)) → (test ≡ true) × Accepted reply
+passed reply m answer true refusal a = (refl, a)
+passed reply m answer false refusal a = absurd (refusal a)
+
+-- the word of one machine in shape, written into any other
+pub carried-word :
+    (saved host : Machine) → inShape saved ≡ true → inShape host ≡ true →
+    setStateWord host (wordOf (saved .state)) ≡ done (withState host (saved .state)) 0
+carried-word saved host h o =
+    let k = parts saved h .state in
+    rw (set-is host (wordOf (saved .state)) o (good-back (saved .state) k), fields-back (saved .state) k, cut-same (saved .state) k)
+
+written-back : (m : Machine) → inShape m ≡ true → setStateWord m (valueOf (readStateWord m .answer)) ≡ done m 0
+written-back m h = rw (read-is m h) (carried-word m m h h)
+
+read-back :
+    (m : Machine) (word : ℕ) → Accepted (setStateWord m word) →
+    ReadBack word (readStateWord (setStateWord m word .machine))
+unfolding setStateWord
+read-back m word a =
+    let s = passed _ m OutOfShape (inShape m) (λ z. omega arith) a in
+    let g = passed _ m BadValue (goodWord word) (λ z. omega arith) (s .1) .0 in
+    let after = withState m (cut (fields word)) in
+    let e = set-is m word (s .0) g in
+    let o : inShape after ≡ true = rw e at (sound m (stateWord word) .accepted a) in
+    let k = word-kept word g in
+    rw (s .0, g, read-is after o) (record {
+      answered = refl;
+      mvl = unfold fields in omega (arith, mvl-back (cut (fields word)) k);
+      vl = unfold fields in omega (arith, vl-back (cut (fields word)) k);
+      rest = rest-back word g;
+    })
+
+pub state-word-kept : StateWordKept
+state-word-kept = record { written-back = written-back; read-back = read-back }
