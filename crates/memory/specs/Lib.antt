@@ -1,0 +1,4 @@
+pub mod Access
+pub mod LittleEndian
+pub mod Read
+pub mod Transfer

@@ -1,0 +1,4 @@
+pub mod Width
+pub mod Signed
+pub mod Compute
+pub mod Ends
