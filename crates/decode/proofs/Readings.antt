@@ -1,0 +1,28 @@
+use mathlib.Core.Path.{refl}
+use Rattle.tables.specs.Enabled.{enabledRange}
+use Rattle.tables.specs.Search.{answers, candidate, highest, held}
+use Rattle.decode.specs.Listing.{funct3Rows, funct6Rows, funct7Rows, firstForm, lookUp}
+use Rattle.decode.specs.Naming.{named}
+use Rattle.decode.specs.Decoding.{decoded, decodedAs, compressedMove}
+use Rattle.decode.specs.Readings.{Readings}
+
+pub readings : Readings
+unfolding enabledRange answers candidate highest held funct3Rows funct6Rows funct7Rows firstForm lookUp named decoded decodedAs compressedMove
+readings =
+    record {
+      add = refl;
+      notMul = refl;
+      addi = refl;
+      srai = refl;
+      notSrai = refl;
+      notSraiw = refl;
+      ld = refl;
+      lwu = refl;
+      notLoad = refl;
+      sd = refl;
+      notStore = refl;
+      move = refl;
+      notMove = refl;
+      moveTo0 = refl;
+      tagged = refl;
+    }

@@ -1,0 +1,5 @@
+pub mod Fields
+pub mod Listing
+pub mod Naming
+pub mod Decoding
+pub mod Readings

@@ -1,0 +1,41 @@
+-- What a register number of an instruction names.
+use Prim.Native.Nat.{ℕ}
+use mathlib.Core.Bool.{cond}
+use mathlib.Core.List.{List}
+use lib.ListN.{getD}
+use Rattle.tables.specs.declared.entry.RegisterEntry.{RegisterEntry}
+use Rattle.tables.specs.declared.search.Held.{Held}
+use Rattle.tables.specs.declared.search.Held.the-variants.{At, Nothing}
+use Rattle.tables.specs.declared.search.Table.the-variants as table
+use Rattle.tables.specs.Entry.{registerEntry}
+use Rattle.tables.specs.Search.{held}
+use Rattle.decode.specs.declared.decoded.Operand.{Operand}
+use Rattle.decode.specs.declared.decoded.Operand.the-variants.{Plain, Scalar, Vector}
+use Rattle.decode.specs.declared.decoded.Named.{Named}
+
+abbrev pub redirected : RegisterEntry → Operand
+redirected entry = cond (entry .vector) (Vector (entry .register)) (Scalar (entry .register))
+
+-- An entry redirects; an untagged operand is scalar and names itself.
+abbrev pub operandBy : Held → List ℕ → ℕ → Operand
+operandBy (At i) entries key = redirected (registerEntry (getD entries i 0))
+operandBy Nothing entries key = Plain key
+
+abbrev pub widthBy : Held → List ℕ → ℕ
+widthBy (At i) entries = registerEntry (getD entries i 0) .width
+widthBy Nothing entries = 0
+
+-- zero is an empty entry
+abbrev pub predicateBy : Held → List ℕ → ℕ
+predicateBy (At i) entries = getD entries i 0
+predicateBy Nothing entries = 0
+
+-- The key is the register number written in the instruction, for both tables.
+unfoldable pub named : ℕ → List ℕ → List ℕ → ℕ → Named
+named cfg registerTable predicateTable key =
+    let registerHeld = held table.Register registerTable cfg key in
+    record {
+      operand = operandBy registerHeld registerTable key;
+      width = widthBy registerHeld registerTable;
+      predicate = predicateBy (held table.Predicate predicateTable cfg key) predicateTable;
+    }

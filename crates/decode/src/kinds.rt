@@ -1,0 +1,106 @@
+// The kinds of instructions, with their operands.
+ghost use mathlib.Core.Path.{_≡_};
+ghost use Rattle.decode.specs.Naming.{named};
+ghost use Rattle.decode.specs.Decoding.{operationWith, loadWith, storeWith, compressedMove};
+use crate::decoded::Decoded;
+use crate::decoded::LoadWord;
+use crate::decoded::MoveWord;
+use crate::decoded::OperationWord;
+use crate::decoded::Second;
+use crate::decoded::StoreWord;
+use crate::fields;
+use crate::operand::named_for;
+use scalar::compute::Operator;
+use scalar::width::Width;
+
+// An operation writes to rd; its first operand is rs1.
+pub(crate) fn operation<'a>(
+    operator: Operator,
+    second: Second,
+    word: u32,
+    cfg: u32,
+    register_table: &'a [u16; 16],
+    predicate_table: &'a [u16; 16],
+) -> Decoded
+    ensures { λ r. ⌜ r ≡ operationWith (named cfg (now («register_table» .entry)) (now («predicate_table» .entry))) word operator second ⌝ }
+{
+    let destination = named_for(fields::rd(word), cfg, register_table, predicate_table);
+    let first = named_for(fields::rs1(word), cfg, register_table, predicate_table);
+    Decoded::Operation(OperationWord {
+        operator,
+        destination,
+        first,
+        second,
+    })
+}
+
+// A load writes to rd; its address is in rs1.
+pub(crate) fn load<'a>(
+    width: Width,
+    signed: bool,
+    word: u32,
+    cfg: u32,
+    register_table: &'a [u16; 16],
+    predicate_table: &'a [u16; 16],
+) -> Decoded
+    ensures { λ r. ⌜ r ≡ loadWith (named cfg (now («register_table» .entry)) (now («predicate_table» .entry))) word width signed ⌝ }
+{
+    let destination = named_for(fields::rd(word), cfg, register_table, predicate_table);
+    let address = named_for(fields::rs1(word), cfg, register_table, predicate_table);
+    let offset = fields::immediate(word);
+    Decoded::Load(LoadWord {
+        destination,
+        address,
+        offset,
+        width,
+        signed,
+    })
+}
+
+// A store takes its data from rs2; its address is in rs1.
+pub(crate) fn store<'a>(
+    width: Width,
+    word: u32,
+    cfg: u32,
+    register_table: &'a [u16; 16],
+    predicate_table: &'a [u16; 16],
+) -> Decoded
+    ensures { λ r. ⌜ r ≡ storeWith (named cfg (now («register_table» .entry)) (now («predicate_table» .entry))) word width ⌝ }
+{
+    let data = named_for(fields::rs2(word), cfg, register_table, predicate_table);
+    let address = named_for(fields::rs1(word), cfg, register_table, predicate_table);
+    let offset = fields::store_immediate(word);
+    Decoded::Store(StoreWord {
+        data,
+        address,
+        offset,
+        width,
+    })
+}
+
+// A word of 16 bits is C.MV or unknown. With a second register of 0 it would be C.JR.
+pub(crate) fn compressed<'a>(
+    word: u32,
+    cfg: u32,
+    register_table: &'a [u16; 16],
+    predicate_table: &'a [u16; 16],
+) -> Decoded
+    ensures { λ r. ⌜ r ≡ compressedMove (named cfg (now («register_table» .entry)) (now («predicate_table» .entry))) word ⌝ }
+{
+    if word % 4 != 0b10 {
+        return Decoded::Unknown;
+    }
+    if word / 0x1000 % 16 != 0b1000 {
+        return Decoded::Unknown;
+    }
+    let rs2 = fields::compressed_rs2(word);
+    if rs2 == 0 {
+        return Decoded::Unknown;
+    }
+    let destination = named_for(fields::rd(word), cfg, register_table, predicate_table);
+    let source = named_for(rs2, cfg, register_table, predicate_table);
+    Decoded::Move(MoveWord {
+        destination,
+        source,
+    })
+}

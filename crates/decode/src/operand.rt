@@ -1,0 +1,59 @@
+// What a register number of an instruction names, by the two tables.
+ghost use mathlib.Core.Path.{_≡_};
+ghost use Rattle.tables.specs.Search.{held};
+ghost use Rattle.tables.specs.declared.search.Table.the-variants.{Predicate};
+ghost use Rattle.decode.specs.Naming.{named, predicateBy, redirected};
+use crate::decoded::Named;
+use crate::decoded::Operand;
+use tables::entry::RegisterEntry;
+use tables::search::Held;
+use tables::search::Table;
+use tables::search::held_for;
+
+// The word of the predicate entry that holds for a key, 0 where none does.
+fn predicate_for(entries: &[u16; 16], cfg: u32, key: u8) -> u16
+    ensures { λ r. ⌜ r ≡ predicateBy (held Predicate (now (entries .entry)) cfg key) (now (entries .entry)) ⌝ }
+{
+    match held_for(Table::Predicate, entries, cfg, key) {
+        Held::At(i) => entries[i],
+        Held::Nothing => 0,
+    }
+}
+
+// What the entry that holds for a register makes of it.
+fn redirected(entry: RegisterEntry) -> Operand
+    ensures { λ r. ⌜ r ≡ redirected entry ⌝ }
+{
+    if entry.vector {
+        Operand::Vector(entry.register)
+    } else {
+        Operand::Scalar(entry.register)
+    }
+}
+
+// What a register number names under a CFG and the two tables.
+pub fn named_for<'a>(
+    key: u8,
+    cfg: u32,
+    register_table: &'a [u16; 16],
+    predicate_table: &'a [u16; 16],
+) -> Named
+    ensures { λ r. ⌜ r ≡ named cfg (now («register_table» .entry)) (now («predicate_table» .entry)) key ⌝ }
+{
+    let predicate = predicate_for(predicate_table, cfg, key);
+    match held_for(Table::Register, register_table, cfg, key) {
+        Held::At(i) => {
+            let entry = RegisterEntry::of(register_table[i]);
+            Named {
+                operand: redirected(entry),
+                width: entry.width,
+                predicate,
+            }
+        }
+        Held::Nothing => Named {
+            operand: Operand::Plain(key),
+            width: 0,
+            predicate,
+        },
+    }
+}
