@@ -4,8 +4,8 @@ use mathlib.Core.Path.{_≡_, sym, _∙_}
 use mathlib.Core.List.{List}
 use native.Mathlib.Nat.{div-one}
 use borrow.Author.Tests.{eq-eqb, ne-eqb}
-use Rattle.decode.specs.declared.form.Form.{Form}
-use Rattle.decode.specs.Listing.{formOf}
+use Rattle.encoding.specs.declared.form.Form.{Form}
+use Rattle.encoding.specs.Listing.{formOf}
 use Rattle.decode.specs.Naming.{named}
 use Rattle.decode.specs.Decoding.{decoded, decodedAs, compressedMove}
 

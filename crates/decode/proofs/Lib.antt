@@ -1,4 +1,3 @@
 pub mod Held
-pub mod Codes
 pub mod Lengths
 pub mod Readings

@@ -11,10 +11,10 @@ use Rattle.decode.specs.declared.decoded.Second.{Second}
 use Rattle.decode.specs.declared.decoded.Second.the-variants as second
 use Rattle.decode.specs.declared.decoded.Decoded.{Decoded}
 use Rattle.decode.specs.declared.decoded.Decoded.the-variants.{Operation, Move, Load, Store, Unknown}
-use Rattle.decode.specs.declared.form.Form.{Form}
-use Rattle.decode.specs.declared.form.Form.the-variants as form
-use Rattle.decode.specs.Fields.{rd, rs1, rs2, shiftAmount, wordShiftAmount, immediate, storeImmediate, compressedRs2}
-use Rattle.decode.specs.Listing.{formOf}
+use Rattle.encoding.specs.declared.form.Form.{Form}
+use Rattle.encoding.specs.declared.form.Form.the-variants as form
+use Rattle.encoding.specs.Fields.{rd, rs1, rs2, shiftAmount, wordShiftAmount, immediate, storeImmediate, compressedRs2}
+use Rattle.encoding.specs.Listing.{formOf}
 use Rattle.decode.specs.Naming.{named}
 
 module _ (name : ℕ → Named) (word : ℕ) where

@@ -8,8 +8,8 @@ use crate::decoded::MoveWord;
 use crate::decoded::OperationWord;
 use crate::decoded::Second;
 use crate::decoded::StoreWord;
-use crate::fields;
 use crate::operand::named_for;
+use encoding::fields;
 use scalar::compute::Operator;
 use scalar::width::Width;
 

@@ -3,17 +3,16 @@ ghost use mathlib.Core.Path.{_≡_};
 ghost use Rattle.decode.specs.Decoding.{decoded};
 use crate::decoded::Decoded;
 use crate::decoded::Second;
-use crate::form::Form;
-use crate::form::form_of;
 use crate::kinds::compressed;
 use crate::kinds::load;
 use crate::kinds::operation;
 use crate::kinds::store;
 use crate::operand::named_for;
+use encoding::fields;
+use encoding::form::Form;
+use encoding::form::form_of;
 
 pub mod decoded;
-pub mod fields;
-pub mod form;
 pub mod kinds;
 pub mod operand;
 

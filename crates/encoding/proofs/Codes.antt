@@ -9,8 +9,8 @@ use lib.Dec.{eqb, ltb}
 use mir.Syntax.{w32}
 use mir.Val.{Fits}
 use Rattle.tables.specs.Bits.{bits}
-use Rattle.decode.specs.Fields.{opcode, funct3}
-use Rattle.decode.specs.Listing.{Top, any, from, Row, funct3Rows, funct6Rows, funct7Rows, hasTop, fitsRow, firstForm, lookUp, listing, formOf}
+use Rattle.encoding.specs.Fields.{opcode, funct3}
+use Rattle.encoding.specs.Listing.{Top, any, from, Row, funct3Rows, funct6Rows, funct7Rows, hasTop, fitsRow, firstForm, lookUp, listing, formOf}
 
 -- two numbers are those asked for where one made of them is
 both :

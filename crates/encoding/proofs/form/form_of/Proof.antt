@@ -4,10 +4,10 @@ use mathlib.Core.Logic.{⊎-elim, inl, inr}
 use mathlib.Core.List.{_++_}
 use borrow.Author.Needs.{needs}
 use borrow.Author.Tests.{ne-eqb}
-use Rattle.decode.specs.Listing.{funct3Rows, funct6Rows, funct7Rows, firstForm}
-use Rattle.decode.proofs.Codes.{by-code, listed, every, pass-code, Apart}
-use Rattle.decode.proofs.form.form_of.Statement.{statement}
-use Rattle.decode.proofs.form.form_of.Tie as tie
+use Rattle.encoding.specs.Listing.{funct3Rows, funct6Rows, funct7Rows, firstForm}
+use Rattle.encoding.proofs.Codes.{by-code, listed, every, pass-code, Apart}
+use Rattle.encoding.proofs.form.form_of.Statement.{statement}
+use Rattle.encoding.proofs.form.form_of.Tie as tie
 
 returns-19 : tie.Need-returns-19
 unfolding every firstForm funct3Rows funct6Rows funct7Rows

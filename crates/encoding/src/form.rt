@@ -1,8 +1,8 @@
 // Which instruction a word of 32 bits is, before its registers are looked at.
 ghost use mathlib.Core.Path.{_≡_};
 ghost use Prim.Native.Nat.{_+_, _*_, _^_};
-ghost use Rattle.decode.specs.Fields.{opcode, funct3};
-ghost use Rattle.decode.specs.Listing.{formOf, lookUp, funct6Rows, funct7Rows};
+ghost use Rattle.encoding.specs.Fields.{opcode, funct3};
+ghost use Rattle.encoding.specs.Listing.{formOf, lookUp, funct6Rows, funct7Rows};
 use scalar::compute::Operator;
 use scalar::width::Width;
 

@@ -2,10 +2,10 @@
 use mathlib.Core.Path.{sym, _∙_}
 use mathlib.Core.List.{[]}
 use borrow.Author.Needs.{needs}
-use Rattle.decode.specs.Listing.{funct6Rows, firstForm}
-use Rattle.decode.proofs.Codes.{by-funct6, pass-long, Apart}
-use Rattle.decode.proofs.form.funct6_form.Statement.{statement}
-use Rattle.decode.proofs.form.funct6_form.Tie as tie
+use Rattle.encoding.specs.Listing.{funct6Rows, firstForm}
+use Rattle.encoding.proofs.Codes.{by-funct6, pass-long, Apart}
+use Rattle.encoding.proofs.form.funct6_form.Statement.{statement}
+use Rattle.encoding.proofs.form.funct6_form.Tie as tie
 
 pub funct6-form-spec : {M : Type 1} → statement M
 unfolding firstForm funct6Rows Apart

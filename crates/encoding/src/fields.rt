@@ -1,7 +1,7 @@
 // The fields of a word.
 ghost use mathlib.Core.Path.{_≡_};
 ghost use Prim.Native.Nat.{_<_, _^_};
-ghost use Rattle.decode.specs.Fields as field;
+ghost use Rattle.encoding.specs.Fields as field;
 
 pub fn rd(word: u32) -> u8
     ensures { λ r. ⌜ r ≡ field.rd word ⌝ }

@@ -1,7 +1,7 @@
 use borrow.Author.Needs.{needs}
 use borrow.Author.Tests.{lt-ltb, le-ltb}
-use Rattle.decode.proofs.fields.sign_extend.Statement.{statement}
-use Rattle.decode.proofs.fields.sign_extend.Tie as tie
+use Rattle.encoding.proofs.fields.sign_extend.Statement.{statement}
+use Rattle.encoding.proofs.fields.sign_extend.Tie as tie
 
 returns : tie.Need-returns
 returns c = rw (lt-ltb _ _ (c .if1 .taken))

@@ -6,9 +6,9 @@ use lib.Dec.{eqb}
 use Rattle.tables.specs.Bits.{bits}
 use Rattle.scalar.specs.declared.width.Width.the-variants.{Byte, Half, Word, Double}
 use Rattle.scalar.specs.declared.compute.Operator.the-variants.{Add, Sub, Sll, Slt, Sltu, Xor, Srl, Sra, Or, And, Addw, Subw, Sllw, Srlw, Sraw}
-use Rattle.decode.specs.declared.form.Form.{Form}
-use Rattle.decode.specs.declared.form.Form.the-variants.{Register, Immediate, Shift, WordShift, Load, LoadUnsigned, Store, Unknown}
-use Rattle.decode.specs.Fields.{opcode, funct3}
+use Rattle.encoding.specs.declared.form.Form.{Form}
+use Rattle.encoding.specs.declared.form.Form.the-variants.{Register, Immediate, Shift, WordShift, Load, LoadUnsigned, Store, Unknown}
+use Rattle.encoding.specs.Fields.{opcode, funct3}
 
 -- what a row asks of the highest bits of a word: nothing, or that bits 31..low are n
 pub data Top : Type 0 where

@@ -1,6 +1,6 @@
 use borrow.Author.Needs.{needs}
-use Rattle.decode.proofs.fields.store_immediate.Statement.{statement}
-use Rattle.decode.proofs.fields.store_immediate.Tie as tie
+use Rattle.encoding.proofs.fields.store_immediate.Statement.{statement}
+use Rattle.encoding.proofs.fields.store_immediate.Tie as tie
 
 returns : tie.Need-returns
 returns c = c .sign-extend .ensures
