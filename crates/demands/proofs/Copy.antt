@@ -8,12 +8,14 @@ use lib.ListN.{length, getD, set}
 use lib.Seq.{set-getD}
 use native.Mathlib.Omega.{arith}
 use borrow.Author.Tests.{lt-ltb}
+use Rattle.answers.specs.Answer.{accepts}
+use Rattle.answers.specs.Verdict.{verdict}
 use Rattle.registers.specs.Written.{written}
 use Rattle.registers.proofs.Writes.{zero-kept, written-above, written-zero}
 use Rattle.tables.specs.Entry.{bit0Clear, allBit0Clear, clearBelow}
 use Rattle.tables.proofs.Clear.{clear-set, clear-at}
 use Rattle.machine.specs.declared.Machine.{Machine}
-use Rattle.machine.specs.declared.answer.Reply.{Reply}
+use Rattle.machine.specs.declared.Reply.{Reply}
 use Rattle.machine.specs.Calls.{done}
 use Rattle.machine.specs.Shape.{inShape, Sized}
 use Rattle.machine.specs.Update.{withRegisters, withPc, withState, withRegisterTable, withPredicateTable, withTables}
@@ -71,7 +73,7 @@ module _ (saved host : Machine) (s : inShape saved ≡ true) (h : inShape host �
       length (saved .«register_table») ≡ 16 → length (host .«register_table») ≡ 16 →
       carriedBelow 16 readRegisterEntry setRegisterEntry saved (done host 0)
       ≡ done (withRegisterTable host (saved .«register_table»)) 0
-  unfolding readRegisterEntry setRegisterEntry
+  unfolding readRegisterEntry setRegisterEntry accepts verdict
   register-entries =
       carried-whole 16 readRegisterEntry setRegisterEntry saved (saved .«register_table») (withRegisterTable host) (λ l. Unit)
       (λ i l. rw (s, lt-ltb i 16 l))
@@ -83,7 +85,7 @@ module _ (saved host : Machine) (s : inShape saved ≡ true) (h : inShape host �
       length (saved .«predicate_table») ≡ 16 → length (host .«predicate_table») ≡ 16 →
       carriedBelow 16 readPredicateEntry setPredicateEntry saved (done host 0)
       ≡ done (withPredicateTable host (saved .«predicate_table»)) 0
-  unfolding readPredicateEntry setPredicateEntry
+  unfolding readPredicateEntry setPredicateEntry accepts verdict
   predicate-entries =
       let from = saved .«predicate_table» in
       let clear : (i : ℕ) → i < 16 → bit0Clear (getD from i 0) ≡ true = λ i l. clear-at 16 from i l (parts saved s .tables) in
@@ -96,7 +98,7 @@ module _ (saved host : Machine) (s : inShape saved ≡ true) (h : inShape host �
   all-registers :
       length (saved .registers) ≡ 128 → length (host .registers) ≡ 128 →
       carriedBelow 128 readRegister setRegister saved (done host 0) ≡ done (withRegisters host (saved .registers)) 0
-  unfolding readRegister setRegister
+  unfolding readRegister setRegister accepts verdict
   all-registers =
       let from = saved .registers in
       let zero-register = parts saved s .zero-register in
@@ -107,7 +109,7 @@ module _ (saved host : Machine) (s : inShape saved ≡ true) (h : inShape host �
       (host .registers) (parts host h .zero-register)
 
   program-counter : carried readPc setPc saved host ≡ done (withPc host (saved .pc)) 0
-  unfolding told setPc
+  unfolding told setPc accepts verdict
   program-counter = rw (s, h)
 
   state-word : carried readStateWord setStateWord saved host ≡ done (withState host (saved .state)) 0

@@ -15,11 +15,10 @@ use Rattle.tables.proofs.Booleans.{and-left, and-right}
 use Rattle.tables.proofs.Clear.{clear-set}
 use Rattle.tables.proofs.States.{vl-kept, mvl-kept, cfg-kept, word-kept}
 use Rattle.machine.specs.declared.Machine.{Machine}
-use Rattle.machine.specs.declared.answer.Answer.{Answer}
-use Rattle.machine.specs.declared.answer.Answer.the-variants.{OutOfShape, BadValue, NoSuchPlace}
-use Rattle.machine.specs.declared.answer.Reply.{Reply}
-use Rattle.machine.specs.Answer.{numberOf}
-use Rattle.machine.specs.Calls.{refuse, done, placed, valued, shaped}
+use Rattle.machine.specs.declared.Reply.{Reply}
+use Rattle.answers.specs.Answer.{accepts}
+use Rattle.answers.specs.Verdict.{verdict}
+use Rattle.machine.specs.Calls.{refuse, done, guarded}
 use Rattle.machine.specs.Shape.{inShape}
 use Rattle.machine.specs.Update.{withState, withRegisters, withPc, withTables}
 use Rattle.machine.specs.Setting.{setVl, setVlImmediate, setMvl, setCfg, setRegisterEntry, setPredicateEntry, setRegister, setPc, setStateWord}
@@ -57,44 +56,43 @@ pub record Sound (m : Machine) (reply : Reply) : Type 0 where
 ended : {m after : Machine} {value : ℕ} → inShape after ≡ true → Sound m (done after value)
 ended h = record { accepted = λ a. h; refused = λ r. absurd (r refl) }
 
--- a test refuses, or the rest of the call decides
+-- the tests refuse, or the rest of the call decides
 tested :
-    {m : Machine} {reply : Reply} (answer : Answer) (test : Bool) → (numberOf answer ≡ 0 → ⊥) →
-    (test ≡ true → Sound m reply) → Sound m (cond test reply (refuse m answer))
-tested answer true refusal then = then refl
-tested answer false refusal then = record { accepted = λ a. absurd (refusal a); refused = λ r. refl }
+    {m : Machine} {reply : Reply} (shaped placed good : Bool) → (shaped ≡ true → good ≡ true → Sound m reply) →
+    Sound m (cond (accepts (verdict shaped placed good)) reply (refuse m (verdict shaped placed good)))
+unfolding accepts verdict
+tested true true true then = then refl refl
+tested true true false then = record { accepted = λ a. absurd (omega arith); refused = λ r. refl }
+tested true false good then = record { accepted = λ a. absurd (omega arith); refused = λ r. refl }
+tested false placed good then = record { accepted = λ a. absurd (omega arith); refused = λ r. refl }
 
-if-shaped : {m : Machine} {reply : Reply} → (inShape m ≡ true → Sound m reply) → Sound m (shaped m reply)
-if-shaped {m} = tested OutOfShape (inShape m) (λ z. omega arith)
-
-if-placed : {m : Machine} {reply : Reply} (i n : ℕ) → Sound m reply → Sound m (placed m i n reply)
-if-placed i n then = tested NoSuchPlace (ltb i n) (λ z. omega arith) (λ e. then)
-
-if-valued : {m : Machine} {reply : Reply} (good : Bool) → (good ≡ true → Sound m reply) → Sound m (valued m good reply)
-if-valued good = tested BadValue good (λ z. omega arith)
+if-guarded :
+    {m : Machine} {reply : Reply} (placed good : Bool) → (inShape m ≡ true → good ≡ true → Sound m reply) →
+    Sound m (guarded m placed good reply)
+if-guarded {m} placed good = tested (inShape m) placed good
 
 pub sound : (m : Machine) (s : Setting) → Sound m (set m s)
 unfolding setVl setVlImmediate setMvl setCfg setRegisterEntry setPredicateEntry setRegister setPc setStateWord
 sound m (vl n) =
-    if-shaped (λ h. if-valued (leb 1 n)
-    (λ e. ended (state-kept m h _ (vl-kept (m .state) (parts m h .state) n (leb-true 1 n e)))))
+    if-guarded true (leb 1 n)
+    (λ h e. ended (state-kept m h _ (vl-kept (m .state) (parts m h .state) n (leb-true 1 n e))))
 sound m (vlImmediate n) =
-    if-shaped (λ h. if-valued (leb n 31)
-    (λ e. ended (state-kept m h _ (vl-kept (m .state) (parts m h .state) (n + 1) (omega arith)))))
+    if-guarded true (leb n 31)
+    (λ h e. ended (state-kept m h _ (vl-kept (m .state) (parts m h .state) (n + 1) (omega arith))))
 sound m (mvl n) =
-    if-shaped (λ h. if-valued (leb 1 n && leb n 64) (λ e. ended (state-kept m h _
-    (mvl-kept (m .state) (parts m h .state) n (leb-true 1 n (and-left _ _ e)) (leb-true n 64 (and-right (leb 1 n) _ e))))))
+    if-guarded true (leb 1 n && leb n 64) (λ h e. ended (state-kept m h _
+    (mvl-kept (m .state) (parts m h .state) n (leb-true 1 n (and-left _ _ e)) (leb-true n 64 (and-right (leb 1 n) _ e)))))
 sound m (cfg n) =
-    if-shaped (λ h. if-valued (leb n 31)
-    (λ e. ended (state-kept m h _ (cfg-kept (m .state) (parts m h .state) n (leb-true n 31 e)))))
+    if-guarded true (leb n 31)
+    (λ h e. ended (state-kept m h _ (cfg-kept (m .state) (parts m h .state) n (leb-true n 31 e))))
 sound m (registerEntry i entry) =
-    if-shaped (λ h. if-placed i 16 (ended (tables-kept m h _ _ (parts m h .tables))))
+    if-guarded (ltb i 16) true (λ h e. ended (tables-kept m h _ _ (parts m h .tables)))
 sound m (predicateEntry i entry) =
-    if-shaped (λ h. if-placed i 16 (if-valued (bit0Clear entry)
-    (λ e. ended (tables-kept m h _ _ (clear-set (m .«predicate_table») i entry e 16 (parts m h .tables))))))
+    if-guarded (ltb i 16) (bit0Clear entry)
+    (λ h e. ended (tables-kept m h _ _ (clear-set (m .«predicate_table») i entry e 16 (parts m h .tables))))
 sound m (register i value) =
-    if-shaped (λ h. if-placed i 128
-    (ended (registers-kept m h _ (zero-kept (m .registers) i value (parts m h .zero-register)))))
-sound m (pc value) = if-shaped (λ h. ended (pc-kept m h value))
+    if-guarded (ltb i 128) true
+    (λ h e. ended (registers-kept m h _ (zero-kept (m .registers) i value (parts m h .zero-register))))
+sound m (pc value) = if-guarded true true (λ h e. ended (pc-kept m h value))
 sound m (stateWord word) =
-    if-shaped (λ h. if-valued (goodWord word) (λ e. ended (state-kept m h _ (word-kept word e))))
+    if-guarded true (goodWord word) (λ h e. ended (state-kept m h _ (word-kept word e)))

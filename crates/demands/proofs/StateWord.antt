@@ -7,10 +7,9 @@ use Rattle.tables.specs.Bits.{bits}
 use Rattle.tables.specs.State.{fields, wordOf, cut, goodWord}
 use Rattle.tables.proofs.States.{fields-back, cut-same, good-back, mvl-back, vl-back, rest-back, word-kept}
 use Rattle.machine.specs.declared.Machine.{Machine}
-use Rattle.machine.specs.declared.answer.Answer.{Answer}
-use Rattle.machine.specs.declared.answer.Answer.the-variants.{OutOfShape, BadValue}
-use Rattle.machine.specs.declared.answer.Reply.{Reply}
-use Rattle.machine.specs.Answer.{numberOf, valueOf}
+use Rattle.machine.specs.declared.Reply.{Reply}
+use Rattle.answers.specs.Answer.{valueOf, accepts}
+use Rattle.answers.specs.Verdict.{verdict}
 use Rattle.machine.specs.Calls.{refuse, done}
 use Rattle.machine.specs.Shape.{inShape}
 use Rattle.machine.specs.Update.{withState}
@@ -22,21 +21,25 @@ use Rattle.demands.specs.StateWord.{ReadBack, StateWordKept}
 use Rattle.demands.proofs.Settings.{sound}
 
 pub read-is : (m : Machine) → inShape m ≡ true → readStateWord m ≡ done m (wordOf (m .state))
-unfolding told
+unfolding told accepts verdict
 read-is m h = rw h
 
 pub set-is :
     (m : Machine) (word : ℕ) → inShape m ≡ true → goodWord word ≡ true →
     setStateWord m word ≡ done (withState m (cut (fields word))) 0
-unfolding setStateWord
+unfolding setStateWord accepts verdict
 set-is m word h g = rw (h, g)
 
 -- an accepted call passed each of its tests
 passed :
-    (reply : Reply) (m : Machine) (answer : Answer) (test : Bool) → (numberOf answer ≡ 0 → ⊥) →
-    Accepted (cond test reply (refuse m answer)) → (test ≡ true) × Accepted reply
-passed reply m answer true refusal a = (refl, a)
-passed reply m answer false refusal a = absurd (refusal a)
+    (reply : Reply) (m : Machine) (shaped placed good : Bool) →
+    Accepted (cond (accepts (verdict shaped placed good)) reply (refuse m (verdict shaped placed good))) →
+    (shaped ≡ true) × (good ≡ true)
+unfolding accepts verdict
+passed reply m true true true a = (refl, refl)
+passed reply m true true false a = absurd (omega arith)
+passed reply m true false good a = absurd (omega arith)
+passed reply m false placed good a = absurd (omega arith)
 
 -- the word of one machine in shape, written into any other
 pub carried-word :
@@ -54,13 +57,13 @@ read-back :
     ReadBack word (readStateWord (setStateWord m word .machine))
 unfolding setStateWord
 read-back m word a =
-    let s = passed _ m OutOfShape (inShape m) (λ z. omega arith) a in
-    let g = passed _ m BadValue (goodWord word) (λ z. omega arith) (s .1) .0 in
+    let t = passed _ m (inShape m) true (goodWord word) a in
+    let g = t .1 in
     let after = withState m (cut (fields word)) in
-    let e = set-is m word (s .0) g in
+    let e = set-is m word (t .0) g in
     let o : inShape after ≡ true = rw e at (sound m (stateWord word) .accepted a) in
     let k = word-kept word g in
-    rw (s .0, g, read-is after o) (record {
+    rw (e, read-is after o) (record {
       answered = refl;
       mvl = unfold fields in omega (arith, mvl-back (cut (fields word)) k);
       vl = unfold fields in omega (arith, vl-back (cut (fields word)) k);

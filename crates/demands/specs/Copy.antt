@@ -4,8 +4,8 @@ use mathlib.Core.Path.{_≡_}
 use mathlib.Core.Bool.{cond, true}
 use lib.Dec.{eqb}
 use Rattle.machine.specs.declared.Machine.{Machine}
-use Rattle.machine.specs.declared.answer.Reply.{Reply}
-use Rattle.machine.specs.Answer.{numberOf, valueOf}
+use Rattle.machine.specs.declared.Reply.{Reply}
+use Rattle.answers.specs.Answer.{numberOf, valueOf}
 use Rattle.machine.specs.Calls.{refuse, done}
 use Rattle.machine.specs.Shape.{inShape, Sized}
 use Rattle.machine.specs.Setting.{setRegisterEntry, setPredicateEntry, setRegister, setPc, setStateWord}

@@ -1,7 +1,7 @@
 -- Every reading call, as data, so that a claim can speak of all of them.
 use Prim.Native.Nat.{ℕ}
 use Rattle.machine.specs.declared.Machine.{Machine}
-use Rattle.machine.specs.declared.answer.Reply.{Reply}
+use Rattle.machine.specs.declared.Reply.{Reply}
 use Rattle.machine.specs.Reading as call
 
 pub data Reading : Type 0 where

@@ -2,8 +2,8 @@
 use Prim.Native.Nat.{ℕ}
 use mathlib.Core.Path.{_≡_}
 use Rattle.machine.specs.declared.Machine.{Machine}
-use Rattle.machine.specs.declared.answer.Reply.{Reply}
-use Rattle.machine.specs.Answer.{numberOf}
+use Rattle.machine.specs.declared.Reply.{Reply}
+use Rattle.answers.specs.Answer.{numberOf}
 use Rattle.machine.specs.Setting as call
 
 pub data Setting : Type 0 where

@@ -4,8 +4,8 @@ use mathlib.Core.Path.{_≡_}
 use mathlib.Core.Bool.{true}
 use Rattle.tables.specs.Bits.{bits}
 use Rattle.machine.specs.declared.Machine.{Machine}
-use Rattle.machine.specs.declared.answer.Reply.{Reply}
-use Rattle.machine.specs.Answer.{valueOf}
+use Rattle.machine.specs.declared.Reply.{Reply}
+use Rattle.answers.specs.Answer.{valueOf}
 use Rattle.machine.specs.Calls.{done}
 use Rattle.machine.specs.Shape.{inShape}
 use Rattle.machine.specs.Setting.{setStateWord}

@@ -1,4 +1,3 @@
-pub mod Answer
 pub mod Shape
 pub mod Update
 pub mod Calls

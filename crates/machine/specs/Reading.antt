@@ -1,13 +1,15 @@
 -- The calls that read one thing out. Each changes nothing.
 use Prim.Native.Nat.{ℕ}
+use mathlib.Core.Bool.{true}
+use lib.Dec.{ltb}
 use lib.ListN.{getD}
 use Rattle.tables.specs.State.{wordOf}
 use Rattle.machine.specs.declared.Machine.{Machine}
-use Rattle.machine.specs.declared.answer.Reply.{Reply}
-use Rattle.machine.specs.Calls.{done, shaped, placed}
+use Rattle.machine.specs.declared.Reply.{Reply}
+use Rattle.machine.specs.Calls.{done, guarded}
 
 unfoldable pub told : Machine → ℕ → Reply
-told m value = shaped m (done m value)
+told m value = guarded m true true (done m value)
 
 abbrev pub readVl : Machine → Reply
 readVl m = told m (m .state .vl)
@@ -25,10 +27,10 @@ abbrev pub readStateWord : Machine → Reply
 readStateWord m = told m (wordOf (m .state))
 
 unfoldable pub readRegisterEntry : Machine → ℕ → Reply
-readRegisterEntry m i = shaped m (placed m i 16 (done m (getD (m .«register_table») i 0)))
+readRegisterEntry m i = guarded m (ltb i 16) true (done m (getD (m .«register_table») i 0))
 
 unfoldable pub readPredicateEntry : Machine → ℕ → Reply
-readPredicateEntry m i = shaped m (placed m i 16 (done m (getD (m .«predicate_table») i 0)))
+readPredicateEntry m i = guarded m (ltb i 16) true (done m (getD (m .«predicate_table») i 0))
 
 unfoldable pub readRegister : Machine → ℕ → Reply
-readRegister m i = shaped m (placed m i 128 (done m (getD (m .registers) i 0)))
+readRegister m i = guarded m (ltb i 128) true (done m (getD (m .registers) i 0))

@@ -1,14 +1,14 @@
 -- The calls that set one thing, as document 01's section "Setting calls" has them.
 use Prim.Native.Nat.{ℕ, _+_}
-use mathlib.Core.Bool.{_&&_}
-use lib.Dec.{leb}
+use mathlib.Core.Bool.{true, _&&_}
+use lib.Dec.{leb, ltb}
 use lib.ListN.{set}
 use Rattle.registers.specs.Written.{written}
 use Rattle.tables.specs.Entry.{bit0Clear}
 use Rattle.tables.specs.State.{withVl, withMvl, withCfg, fields, cut, goodWord}
 use Rattle.machine.specs.declared.Machine.{Machine}
-use Rattle.machine.specs.declared.answer.Reply.{Reply}
-use Rattle.machine.specs.Calls.{done, shaped, placed, valued}
+use Rattle.machine.specs.declared.Reply.{Reply}
+use Rattle.machine.specs.Calls.{done, guarded}
 use Rattle.machine.specs.Update.{withRegisters, withPc, withState, withRegisterTable, withPredicateTable}
 
 -- the new VL is returned
@@ -17,35 +17,34 @@ vlSet m n = done (withState m (withVl (m .state) n)) (withVl (m .state) n .vl)
 
 -- plain form: n from 1
 unfoldable pub setVl : Machine → ℕ → Reply
-setVl m n = shaped m (valued m (leb 1 n) (vlSet m n))
+setVl m n = guarded m true (leb 1 n) (vlSet m n)
 
 -- immediate form: n from 0 to 31 sets min(n + 1, MVL)
 unfoldable pub setVlImmediate : Machine → ℕ → Reply
-setVlImmediate m n = shaped m (valued m (leb n 31) (vlSet m (n + 1)))
+setVlImmediate m n = guarded m true (leb n 31) (vlSet m (n + 1))
 
 -- 1 to 64
 unfoldable pub setMvl : Machine → ℕ → Reply
-setMvl m n = shaped m (valued m (leb 1 n && leb n 64) (done (withState m (withMvl (m .state) n)) 0))
+setMvl m n = guarded m true (leb 1 n && leb n 64) (done (withState m (withMvl (m .state) n)) 0)
 
 -- 0 to 31
 unfoldable pub setCfg : Machine → ℕ → Reply
-setCfg m n = shaped m (valued m (leb n 31) (done (withState m (withCfg (m .state) n)) 0))
+setCfg m n = guarded m true (leb n 31) (done (withState m (withCfg (m .state) n)) 0)
 
 unfoldable pub setRegisterEntry : Machine → ℕ → ℕ → Reply
 setRegisterEntry m i entry =
-    shaped m (placed m i 16 (done (withRegisterTable m (set (m .«register_table») i entry)) 0))
+    guarded m (ltb i 16) true (done (withRegisterTable m (set (m .«register_table») i entry)) 0)
 
 unfoldable pub setPredicateEntry : Machine → ℕ → ℕ → Reply
 setPredicateEntry m i entry =
-    shaped m (placed m i 16 (valued m (bit0Clear entry)
-    (done (withPredicateTable m (set (m .«predicate_table») i entry)) 0)))
+    guarded m (ltb i 16) (bit0Clear entry) (done (withPredicateTable m (set (m .«predicate_table») i entry)) 0)
 
 unfoldable pub setRegister : Machine → ℕ → ℕ → Reply
-setRegister m i value = shaped m (placed m i 128 (done (withRegisters m (written (m .registers) i value)) 0))
+setRegister m i value = guarded m (ltb i 128) true (done (withRegisters m (written (m .registers) i value)) 0)
 
 unfoldable pub setPc : Machine → ℕ → Reply
-setPc m pc = shaped m (done (withPc m pc) 0)
+setPc m pc = guarded m true true (done (withPc m pc) 0)
 
 -- MVL, then VL as min(VL, MVL), then offsets, then CFG
 unfoldable pub setStateWord : Machine → ℕ → Reply
-setStateWord m word = shaped m (valued m (goodWord word) (done (withState m (cut (fields word))) 0))
+setStateWord m word = guarded m true (goodWord word) (done (withState m (cut (fields word))) 0)

@@ -1,13 +1,13 @@
 // The machine by value, and the calls that set and read it.
 ghost use mathlib.Core.Path.{_≡_};
 ghost use Rattle.machine.specs.Shape.{freshMachine, inShape};
+ghost use Rattle.answers.specs.Verdict.{verdict};
 ghost use Rattle.machine.specs.Calls.{refuse, done};
-use answer::Answer;
-use answer::Reply;
+use answers::Answer;
+use answers::verdict_of;
 use tables::entry::all_bit0_clear;
 use tables::state::State;
 
-pub mod answer;
 pub mod reading;
 pub mod setting;
 
@@ -18,6 +18,12 @@ pub struct Machine {
     pub state: State,
     pub register_table: [u16; 16],
     pub predicate_table: [u16; 16],
+}
+
+// An answer, and the machine after the call.
+pub struct Reply {
+    pub answer: Answer,
+    pub machine: Machine,
 }
 
 impl Machine {
@@ -52,6 +58,12 @@ impl Machine {
     {
         let state = self.state;
         state.in_shape() & (self.registers[0] == 0) & all_bit0_clear(&self.predicate_table)
+    }
+
+    fn judged(self, placed: bool, good: bool) -> Answer
+        ensures { λ r. ⌜ r ≡ verdict (inShape self) placed good ⌝ }
+    {
+        verdict_of(self.in_shape(), placed, good)
     }
 
     fn refused(self, answer: Answer) -> Reply

@@ -1,11 +1,9 @@
 // The calls that read one thing out. They change nothing, and refuse 6 and 8 only.
 ghost use mathlib.Core.Path.{_≡_};
-ghost use Prim.Native.Nat.{_<_};
 ghost use lib.ListN.{getD};
 ghost use Rattle.machine.specs.Reading.{told, readVl, readMvl, readCfg, readRegisterEntry, readPredicateEntry, readRegister, readPc, readStateWord};
 use crate::Machine;
-use crate::answer::Answer;
-use crate::answer::Reply;
+use crate::Reply;
 use tables::entry::entry_at;
 
 impl Machine {
@@ -13,8 +11,9 @@ impl Machine {
     fn told(self, value: u64) -> Reply
         ensures { λ r. ⌜ r ≡ told self value ⌝ }
     {
-        if !self.in_shape() {
-            return self.refused(Answer::OutOfShape);
+        let verdict = self.judged(true, true);
+        if !verdict.accepts() {
+            return self.refused(verdict);
         }
         self.done(value)
     }
@@ -53,11 +52,9 @@ impl Machine {
     pub fn read_register_entry(self, index: u32) -> Reply
         ensures { λ r. ⌜ r ≡ readRegisterEntry self index ⌝ }
     {
-        if !self.in_shape() {
-            return self.refused(Answer::OutOfShape);
-        }
-        if Machine::ENTRIES <= index as usize {
-            return self.refused(Answer::NoSuchPlace);
+        let verdict = self.judged((index as usize) < Machine::ENTRIES, true);
+        if !verdict.accepts() {
+            return self.refused(verdict);
         }
         let entries = self.register_table;
         self.done(entry_at(entries, index) as u64)
@@ -66,31 +63,30 @@ impl Machine {
     pub fn read_predicate_entry(self, index: u32) -> Reply
         ensures { λ r. ⌜ r ≡ readPredicateEntry self index ⌝ }
     {
-        if !self.in_shape() {
-            return self.refused(Answer::OutOfShape);
-        }
-        if Machine::ENTRIES <= index as usize {
-            return self.refused(Answer::NoSuchPlace);
+        let verdict = self.judged((index as usize) < Machine::ENTRIES, true);
+        if !verdict.accepts() {
+            return self.refused(verdict);
         }
         let entries = self.predicate_table;
         self.done(entry_at(entries, index) as u64)
     }
 
+    // A register, and 0 where there is none.
     fn register_at(self, index: u32) -> u64
-        requires { ⌜ index < 128 ⌝ }
         ensures { λ r. ⌜ r ≡ getD (self .registers) index 0 ⌝ }
     {
+        if 128 <= index {
+            return 0;
+        }
         self.registers[index as usize]
     }
 
     pub fn read_register(self, index: u32) -> Reply
         ensures { λ r. ⌜ r ≡ readRegister self index ⌝ }
     {
-        if !self.in_shape() {
-            return self.refused(Answer::OutOfShape);
-        }
-        if Machine::REGISTERS <= index as usize {
-            return self.refused(Answer::NoSuchPlace);
+        let verdict = self.judged((index as usize) < Machine::REGISTERS, true);
+        if !verdict.accepts() {
+            return self.refused(verdict);
         }
         self.done(self.register_at(index))
     }

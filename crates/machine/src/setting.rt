@@ -4,8 +4,7 @@ ghost use Rattle.registers.specs.Written.{written};
 ghost use Rattle.machine.specs.Update.{withRegisters};
 ghost use Rattle.machine.specs.Setting.{vlSet, setVl, setVlImmediate, setMvl, setCfg, setRegisterEntry, setPredicateEntry, setRegister, setPc, setStateWord};
 use crate::Machine;
-use crate::answer::Answer;
-use crate::answer::Reply;
+use crate::Reply;
 use tables::entry::with_entry;
 use tables::state::State;
 use tables::state::good_word;
@@ -23,11 +22,9 @@ impl Machine {
     pub fn set_vl(self, n: u64) -> Reply
         ensures { λ r. ⌜ r ≡ setVl self n ⌝ }
     {
-        if !self.in_shape() {
-            return self.refused(Answer::OutOfShape);
-        }
-        if n < 1 {
-            return self.refused(Answer::BadValue);
+        let verdict = self.judged(true, 1 <= n);
+        if !verdict.accepts() {
+            return self.refused(verdict);
         }
         self.vl_set(n)
     }
@@ -35,11 +32,9 @@ impl Machine {
     pub fn set_vl_immediate(self, n: u32) -> Reply
         ensures { λ r. ⌜ r ≡ setVlImmediate self n ⌝ }
     {
-        if !self.in_shape() {
-            return self.refused(Answer::OutOfShape);
-        }
-        if 31 < n {
-            return self.refused(Answer::BadValue);
+        let verdict = self.judged(true, n <= 31);
+        if !verdict.accepts() {
+            return self.refused(verdict);
         }
         self.vl_set(n as u64 + 1)
     }
@@ -47,14 +42,9 @@ impl Machine {
     pub fn set_mvl(mut self, n: u32) -> Reply
         ensures { λ r. ⌜ r ≡ setMvl self n ⌝ }
     {
-        if !self.in_shape() {
-            return self.refused(Answer::OutOfShape);
-        }
-        if n < 1 {
-            return self.refused(Answer::BadValue);
-        }
-        if Machine::ELEMENTS < n {
-            return self.refused(Answer::BadValue);
+        let verdict = self.judged(true, (1 <= n) & (n <= Machine::ELEMENTS));
+        if !verdict.accepts() {
+            return self.refused(verdict);
         }
         let old = self.state;
         let state = old.with_mvl(n);
@@ -65,11 +55,9 @@ impl Machine {
     pub fn set_cfg(mut self, n: u32) -> Reply
         ensures { λ r. ⌜ r ≡ setCfg self n ⌝ }
     {
-        if !self.in_shape() {
-            return self.refused(Answer::OutOfShape);
-        }
-        if 31 < n {
-            return self.refused(Answer::BadValue);
+        let verdict = self.judged(true, n <= 31);
+        if !verdict.accepts() {
+            return self.refused(verdict);
         }
         self.state.cfg = n;
         self.done(0)
@@ -78,11 +66,9 @@ impl Machine {
     pub fn set_register_entry(mut self, index: u32, entry: u16) -> Reply
         ensures { λ r. ⌜ r ≡ setRegisterEntry self index entry ⌝ }
     {
-        if !self.in_shape() {
-            return self.refused(Answer::OutOfShape);
-        }
-        if Machine::ENTRIES <= index as usize {
-            return self.refused(Answer::NoSuchPlace);
+        let verdict = self.judged((index as usize) < Machine::ENTRIES, true);
+        if !verdict.accepts() {
+            return self.refused(verdict);
         }
         let old = self.register_table;
         let entries = with_entry(old, index, entry);
@@ -93,14 +79,9 @@ impl Machine {
     pub fn set_predicate_entry(mut self, index: u32, entry: u16) -> Reply
         ensures { λ r. ⌜ r ≡ setPredicateEntry self index entry ⌝ }
     {
-        if !self.in_shape() {
-            return self.refused(Answer::OutOfShape);
-        }
-        if Machine::ENTRIES <= index as usize {
-            return self.refused(Answer::NoSuchPlace);
-        }
-        if entry % 2 == 1 {
-            return self.refused(Answer::BadValue);
+        let verdict = self.judged((index as usize) < Machine::ENTRIES, !(entry % 2 == 1));
+        if !verdict.accepts() {
+            return self.refused(verdict);
         }
         let old = self.predicate_table;
         let entries = with_entry(old, index, entry);
@@ -118,11 +99,9 @@ impl Machine {
     pub fn set_register(self, index: u32, value: u64) -> Reply
         ensures { λ r. ⌜ r ≡ setRegister self index value ⌝ }
     {
-        if !self.in_shape() {
-            return self.refused(Answer::OutOfShape);
-        }
-        if Machine::REGISTERS <= index as usize {
-            return self.refused(Answer::NoSuchPlace);
+        let verdict = self.judged((index as usize) < Machine::REGISTERS, true);
+        if !verdict.accepts() {
+            return self.refused(verdict);
         }
         self.with_register(index, value).done(0)
     }
@@ -130,8 +109,9 @@ impl Machine {
     pub fn set_pc(mut self, pc: u64) -> Reply
         ensures { λ r. ⌜ r ≡ setPc self pc ⌝ }
     {
-        if !self.in_shape() {
-            return self.refused(Answer::OutOfShape);
+        let verdict = self.judged(true, true);
+        if !verdict.accepts() {
+            return self.refused(verdict);
         }
         self.pc = pc;
         self.done(0)
@@ -140,11 +120,9 @@ impl Machine {
     pub fn set_state_word(mut self, word: u32) -> Reply
         ensures { λ r. ⌜ r ≡ setStateWord self word ⌝ }
     {
-        if !self.in_shape() {
-            return self.refused(Answer::OutOfShape);
-        }
-        if !good_word(word) {
-            return self.refused(Answer::BadValue);
+        let verdict = self.judged(true, good_word(word));
+        if !verdict.accepts() {
+            return self.refused(verdict);
         }
         let state = State::of_word(word).cut();
         self.state = state;

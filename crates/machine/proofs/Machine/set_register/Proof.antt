@@ -1,5 +1,4 @@
 use borrow.Author.Needs.{needs}
-use borrow.Author.Tests.{le-ltb, lt-ltb}
 use Rattle.machine.specs.Setting.{setRegister}
 use Rattle.machine.proofs.Laws.{fails, holds}
 use Rattle.machine.proofs.Machine.set_register.Statement.{statement}
@@ -7,15 +6,15 @@ use Rattle.machine.proofs.Machine.set_register.Tie as tie
 
 returns : tie.Need-returns
 unfolding setRegister
-returns c = rw (c .refused .ensures, fails (c .before .before .in-shape .ensures) (c .before .if1 .taken))
+returns c =
+    let a = c .before in
+    rw (c .refused .ensures, ← (a .before .before .judged .ensures), fails (a .before .accepts .ensures) (a .if1 .taken))
 
 returns-2 : tie.Need-returns-2
 unfolding setRegister
-returns-2 c = rw (c .refused2 .ensures, holds (c .before .before .before .in-shape .ensures) (c .before .before .if1 .left), le-ltb _ _ (c .before .if2 .taken))
-
-returns-3 : tie.Need-returns-3
-unfolding setRegister
-returns-3 c = rw (c .done .ensures, c .before .with-register .ensures, holds (c .before .before .before .before .in-shape .ensures) (c .before .before .before .if1 .left), lt-ltb _ _ (c .before .before .if2 .left))
+returns-2 c =
+    let a = c .before .before in
+    rw (c .done .ensures, c .before .with-register .ensures, ← (a .before .before .judged .ensures), holds (a .before .accepts .ensures) (a .if1 .left))
 
 pub set-register-spec : {M : Type 1} → statement M
 set-register-spec =
@@ -23,9 +22,8 @@ set-register-spec =
     (tie.spec
     (λ c κs. search needs)
     (λ c κs. search needs)
+    (λ c κs. search needs)
     returns
     (λ c κs. search needs)
-    returns-2
     (λ c κs. search needs)
-    (λ c κs. search needs)
-    returns-3)
+    returns-2)

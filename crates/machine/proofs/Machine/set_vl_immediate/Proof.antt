@@ -1,5 +1,4 @@
 use borrow.Author.Needs.{needs}
-use borrow.Author.Tests.{le-leb, lt-leb}
 use Rattle.machine.specs.Setting.{setVlImmediate}
 use Rattle.machine.proofs.Laws.{fails, holds}
 use Rattle.machine.proofs.Machine.set_vl_immediate.Statement.{statement}
@@ -7,15 +6,15 @@ use Rattle.machine.proofs.Machine.set_vl_immediate.Tie as tie
 
 returns : tie.Need-returns
 unfolding setVlImmediate
-returns c = rw (c .refused .ensures, fails (c .before .before .in-shape .ensures) (c .before .if1 .taken))
+returns c =
+    let a = c .before in
+    rw (c .refused .ensures, ← (a .before .before .judged .ensures), fails (a .before .accepts .ensures) (a .if1 .taken))
 
 returns-2 : tie.Need-returns-2
 unfolding setVlImmediate
-returns-2 c = rw (c .refused2 .ensures, holds (c .before .before .before .in-shape .ensures) (c .before .before .if1 .left), lt-leb _ _ (c .before .if2 .taken))
-
-returns-3 : tie.Need-returns-3
-unfolding setVlImmediate
-returns-3 c = rw (c .vl-set .ensures, holds (c .before .before .before .in-shape .ensures) (c .before .before .if1 .left), le-leb _ _ (c .before .if2 .left))
+returns-2 c =
+    let a = c .before in
+    rw (c .vl-set .ensures, ← (a .before .before .judged .ensures), holds (a .before .accepts .ensures) (a .if1 .left))
 
 pub set-vl-immediate-spec : {M : Type 1} → statement M
 set-vl-immediate-spec =
@@ -23,9 +22,8 @@ set-vl-immediate-spec =
     (tie.spec
     (λ c κs. search needs)
     (λ c κs. search needs)
-    returns
     (λ c κs. search needs)
-    returns-2
+    returns
     (λ c. search needs)
     (λ c κs. search needs)
-    returns-3)
+    returns-2)

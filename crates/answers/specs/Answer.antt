@@ -1,7 +1,9 @@
 -- The table "What a call says": the number of each answer, and the value returned with it.
 use Prim.Native.Nat.{ℕ}
-use Rattle.machine.specs.declared.answer.Answer.{Answer}
-use Rattle.machine.specs.declared.answer.Answer.the-variants.{
+use mathlib.Core.Bool.{Bool}
+use lib.Dec.{eqb}
+use Rattle.answers.specs.declared.Answer.{Answer}
+use Rattle.answers.specs.declared.Answer.the-variants.{
   Done,
   Paused,
   UnknownWord,
@@ -35,3 +37,7 @@ valueOf (Fault address) = address
 valueOf OutOfShape = 0
 valueOf BadValue = 0
 valueOf NoSuchPlace = 0
+
+-- answer 0
+unfoldable pub accepts : Answer → Bool
+accepts answer = eqb (numberOf answer) 0

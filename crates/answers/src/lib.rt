@@ -1,7 +1,7 @@
 // What a call says.
 ghost use mathlib.Core.Path.{_≡_};
-ghost use Rattle.machine.specs.Answer.{numberOf, valueOf};
-use crate::Machine;
+ghost use Rattle.answers.specs.Answer.{numberOf, valueOf, accepts};
+ghost use Rattle.answers.specs.Verdict.{verdict};
 
 pub enum Answer {
     Done(u64),
@@ -13,12 +13,6 @@ pub enum Answer {
     OutOfShape,
     BadValue,
     NoSuchPlace,
-}
-
-// An answer, and the machine after the call.
-pub struct Reply {
-    pub answer: Answer,
-    pub machine: Machine,
 }
 
 impl Answer {
@@ -44,14 +38,36 @@ impl Answer {
     {
         match self {
             Answer::Done(value) => value,
-            Answer::Fault(address) => address,
             Answer::Paused => 0,
             Answer::UnknownWord => 0,
             Answer::PastRegisters => 0,
             Answer::BadWidth => 0,
+            Answer::Fault(address) => address,
             Answer::OutOfShape => 0,
             Answer::BadValue => 0,
             Answer::NoSuchPlace => 0,
         }
     }
+
+    pub fn accepts(self) -> bool
+        ensures { λ r. ⌜ r ≡ accepts self ⌝ }
+    {
+        self.number() == 0
+    }
+}
+
+// What a setting or reading call says, by its three tests.
+pub fn verdict_of(shaped: bool, placed: bool, good: bool) -> Answer
+    ensures { λ r. ⌜ r ≡ verdict shaped placed good ⌝ }
+{
+    if !shaped {
+        return Answer::OutOfShape;
+    }
+    if !placed {
+        return Answer::NoSuchPlace;
+    }
+    if !good {
+        return Answer::BadValue;
+    }
+    Answer::Done(0)
 }
