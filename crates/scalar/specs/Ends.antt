@@ -1,5 +1,5 @@
 -- The definitions read at both ends of the signed ranges.
-use mathlib.Core.Path.{_≡_, refl}
+use mathlib.Core.Path.{_≡_}
 use mathlib.Core.Bool.{true, false}
 use Prim.Native.Nat.{_+_, _-_, _^_}
 use Rattle.scalar.specs.Signed.{signedLess, arithmeticShift, signExtended}
@@ -22,23 +22,3 @@ pub record Ends : Type 0 where
   pub sllw : computed Sllw 1 (32 + 31) ≡ 2 ^ 64 - 2 ^ 31
   pub srlw : computed Srlw (2 ^ 64 - 1) 32 ≡ 2 ^ 64 - 1
   pub sraw : computed Sraw (2 ^ 31) (32 + 31) ≡ 2 ^ 64 - 1
-
-pub ends : Ends
-unfolding signedLess arithmeticShift signExtended computed
-ends =
-    record {
-      leastIsLess = refl;
-      mostIsNot = refl;
-      mostOfByte = refl;
-      leastOfByte = refl;
-      leastOfHalf = refl;
-      leastOfWord = refl;
-      leastOfDouble = refl;
-      sub = refl;
-      sra = refl;
-      addw = refl;
-      subw = refl;
-      sllw = refl;
-      srlw = refl;
-      sraw = refl;
-    }
