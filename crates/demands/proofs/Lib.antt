@@ -1,6 +1,7 @@
 pub mod Settings
-pub mod Readings
+pub mod Unchanged
 pub mod Shape
 pub mod StateWord
 pub mod Pasted
 pub mod Copy
+pub mod Readings

@@ -5,7 +5,7 @@ use Rattle.tables.specs.State.{stateInShape}
 use Rattle.machine.specs.Shape.{inShape, roomInShape, tablesInShape}
 use Rattle.demands.specs.Shape.{ShapeKept}
 use Rattle.demands.proofs.Settings.{sound}
-use Rattle.demands.proofs.Readings.{unchanged}
+use Rattle.demands.proofs.Unchanged.{unchanged}
 
 pub shape-kept : ShapeKept
 unfolding inShape roomInShape tablesInShape stateInShape clearBelow

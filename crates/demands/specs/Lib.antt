@@ -3,3 +3,4 @@ pub mod Reading
 pub mod Shape
 pub mod StateWord
 pub mod Copy
+pub mod Readings
