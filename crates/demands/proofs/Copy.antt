@@ -1,9 +1,8 @@
 -- Copying a machine out and back gives the machine that was copied.
 use Prim.Native.Nat.{ℕ, zero, suc, _<_, _≤_}
 use mathlib.Core.Path.{_≡_, refl, sym, _∙_, ap}
-use mathlib.Core.Bool.{Bool, true, false}
+use mathlib.Core.Bool.{true}
 use mathlib.Core.List.{List}
-use lib.Dec.{eqb, ltb}
 use lib.ListN.{length, getD, set}
 use lib.Seq.{set-getD}
 use native.Mathlib.Omega.{arith}
@@ -12,17 +11,17 @@ use Rattle.answers.specs.Answer.{accepts}
 use Rattle.answers.specs.Verdict.{verdict}
 use Rattle.registers.specs.Written.{written}
 use Rattle.registers.proofs.Writes.{zero-kept, written-above, written-zero}
-use Rattle.tables.specs.Entry.{bit0Clear, allBit0Clear, clearBelow}
+use Rattle.tables.specs.Entry.{bit0Clear, allBit0Clear}
 use Rattle.tables.proofs.Clear.{clear-set, clear-at}
 use Rattle.machine.specs.declared.Machine.{Machine}
 use Rattle.machine.specs.declared.Reply.{Reply}
 use Rattle.machine.specs.Calls.{done}
-use Rattle.machine.specs.Shape.{inShape, Sized}
-use Rattle.machine.specs.Update.{withRegisters, withPc, withState, withRegisterTable, withPredicateTable, withTables}
+use Rattle.machine.specs.Shape.{inShape}
+use Rattle.machine.specs.Update.{withRegisters, withPc, withState, withRegisterTable, withPredicateTable}
 use Rattle.machine.specs.Setting.{setRegisterEntry, setPredicateEntry, setRegister, setPc, setStateWord}
 use Rattle.machine.specs.Reading.{told, readRegisterEntry, readPredicateEntry, readRegister, readPc, readStateWord}
-use Rattle.machine.proofs.Shapes.{parts, in-shape}
-use Rattle.demands.specs.Copy.{after, carried, carriedBelow, restoredTables, restoredRoom, restored, CopyKept}
+use Rattle.machine.proofs.Shapes.{parts}
+use Rattle.demands.specs.Copy.{after, carried, carriedBelow, restoredRoom, restored, CopyKept}
 use Rattle.demands.proofs.Settings.{registers-kept, tables-kept, pc-kept}
 use Rattle.demands.proofs.StateWord.{read-is, carried-word}
 use Rattle.demands.proofs.Pasted.{pasted, pasted-suc, pasted-whole}

@@ -1,9 +1,8 @@
 -- The claims about the state word hold.
-use Prim.Native.Nat.{ℕ, _+_, min}
+use Prim.Native.Nat.{ℕ}
 use mathlib.Core.Path.{_≡_, refl}
 use mathlib.Core.Bool.{Bool, true, false, cond}
 use native.Mathlib.Omega.{arith}
-use Rattle.tables.specs.Bits.{bits}
 use Rattle.tables.specs.State.{fields, wordOf, cut, goodWord}
 use Rattle.tables.proofs.States.{fields-back, cut-same, good-back, mvl-back, vl-back, rest-back, word-kept}
 use Rattle.machine.specs.declared.Machine.{Machine}

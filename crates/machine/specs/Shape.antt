@@ -1,5 +1,4 @@
 -- The machine: the fresh one, and when one is in shape.
-use Prim.Native.Nat.{ℕ}
 use mathlib.Core.Path.{_≡_}
 use mathlib.Core.Bool.{Bool, _&&_}
 use lib.Dec.{eqb}

@@ -5,7 +5,6 @@ use Prim.Native.Nat.{ℕ, _+_, _<_, _≤_}
 use native.Mathlib.Omega.{arith}
 use borrow.Author.Tests.{leb-true, le-leb, lt-leb}
 use lib.Dec.{leb}
-use Rattle.memory.specs.declared.access.Access.{Access}
 use Rattle.memory.specs.declared.access.Access.the-variants.{Inside, Outside}
 use Rattle.memory.specs.Access.{inside, located}
 

@@ -2,7 +2,7 @@
 use mathlib.Core.Path.{_≡_}
 use mathlib.Core.Bool.{true, false}
 use Prim.Native.Nat.{_+_, _-_, _^_}
-use Rattle.scalar.specs.Signed.{signedLess, arithmeticShift, signExtended}
+use Rattle.scalar.specs.Signed.{signedLess, signExtended}
 use Rattle.scalar.specs.Compute.{computed}
 use Rattle.scalar.specs.declared.width.Width.the-variants.{Byte, Half, Word, Double}
 use Rattle.scalar.specs.declared.compute.Operator.the-variants.{Sub, Sra, Addw, Subw, Sllw, Srlw, Sraw}

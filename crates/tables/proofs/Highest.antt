@@ -1,18 +1,15 @@
 -- The search from the highest index down.
-use Prim.Native.Nat.{ℕ, zero, suc, _+_, _-_, _≤_, _<_}
-use mathlib.Core.Path.{_≡_, refl, _∙_, sym, ap}
+use Prim.Native.Nat.{ℕ, zero, suc, _-_, _≤_, _<_}
+use mathlib.Core.Path.{_≡_, refl, _∙_, ap}
 use mathlib.Core.Bool.{Bool, true, false, and-false}
 use mathlib.Core.List.{List}
 use lib.Dec.{ltb}
 use lib.ListN.{getD}
 use native.Mathlib.Omega.{arith}
-use native.Mathlib.Nat.{zero-add}
-use native.Mathlib.Numerals.{unary-clauses}
 use borrow.Author.Tests.{lt-ltb, le-ltb, le-leb, lt-leb, ltb-true, ltb-false}
 use Rattle.tables.specs.declared.search.Table.{Table}
-use Rattle.tables.specs.declared.search.Held.{Held}
 use Rattle.tables.specs.declared.search.Held.the-variants.{At, Nothing}
-use Rattle.tables.specs.Enabled.{enabled, enabledRange}
+use Rattle.tables.specs.Enabled.{enabledRange}
 use Rattle.tables.specs.Search.{answers, candidate, highest, held}
 use Rattle.tables.proofs.Ranges.{end-low}
 

@@ -6,7 +6,6 @@ use lib.Dec.{eqb}
 use native.Mathlib.Nat.{div-one}
 use native.Mathlib.Omega.{arith}
 use borrow.Author.Tests.{eq-eqb, ne-eqb}
-use Rattle.tables.specs.declared.enabled.Range.{Range}
 use Rattle.tables.specs.Enabled.{enabledRange}
 
 -- a size is below 4, so that nothing is lost of its power of two

@@ -1,5 +1,5 @@
-use borrow.Author.Needs.{needs}
 use native.Mathlib.Nat.{div-one}
+use borrow.Author.Needs.{needs}
 use Rattle.machine.specs.Setting.{setPredicateEntry}
 use Rattle.machine.proofs.Laws.{fails, holds}
 use Rattle.machine.proofs.Machine.set_predicate_entry.Statement.{statement}

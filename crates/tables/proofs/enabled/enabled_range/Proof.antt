@@ -1,7 +1,7 @@
-use Rattle.tables.proofs.Ranges.{range-none, range-some, power, power-low}
 use Prim.Native.Nat.{_/_, _%_}
 use native.Mathlib.Omega.{arith}
 use borrow.Author.Needs.{needs}
+use Rattle.tables.proofs.Ranges.{range-none, range-some, power, power-low}
 use Rattle.tables.proofs.enabled.enabled_range.Statement.{statement}
 use Rattle.tables.proofs.enabled.enabled_range.Tie as tie
 

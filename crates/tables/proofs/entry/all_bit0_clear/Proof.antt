@@ -2,8 +2,8 @@ use Prim.Native.Nat.{_≤_, _-_}
 use mathlib.Core.Path.{_≡_, refl}
 use native.Mathlib.Nat.{div-one}
 use native.Mathlib.Numerals.{add-one}
-use borrow.Author.Needs.{needs}
 use native.Mathlib.Omega.{arith}
+use borrow.Author.Needs.{needs}
 use Rattle.tables.specs.Entry.{clearBelow}
 use Rattle.tables.proofs.entry.all_bit0_clear.Statement.{statement}
 use Rattle.tables.proofs.entry.all_bit0_clear.Tie as tie

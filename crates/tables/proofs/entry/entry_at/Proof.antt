@@ -1,7 +1,7 @@
-use borrow.Author.Needs.{needs}
 use mathlib.Core.Path.{_≡_, sym}
 use lib.ListN.{length, List·getD-eq-default}
 use native.Mathlib.Omega.{arith}
+use borrow.Author.Needs.{needs}
 use Rattle.tables.proofs.entry.entry_at.Statement.{statement}
 use Rattle.tables.proofs.entry.entry_at.Tie as tie
 

@@ -1,5 +1,5 @@
-use Rattle.tables.specs.Search.{answers}
 use borrow.Author.Needs.{needs}
+use Rattle.tables.specs.Search.{answers}
 use Rattle.tables.proofs.search.entry_answers.Statement.{statement}
 use Rattle.tables.proofs.search.entry_answers.Tie as tie
 

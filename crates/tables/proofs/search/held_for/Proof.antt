@@ -1,13 +1,11 @@
-use Rattle.tables.proofs.Highest.{held-start, held-yes, held-no, held-none}
-use Rattle.tables.proofs.Ranges.{end-low}
-use Rattle.tables.specs.Enabled.{enabled, enabledRange}
-use Rattle.tables.specs.Search.{answers, candidate, highest, held}
-use lib.ListN.{getD}
-use mathlib.Core.Bool.{_&&_}
-use mathlib.Core.Path.{_≡_, refl, sym, _∙_}
-use Prim.Native.Nat.{_≤_, _<_, _-_}
+use Prim.Native.Nat.{_≤_, _-_}
+use mathlib.Core.Path.{_≡_, sym, _∙_}
 use native.Mathlib.Omega.{arith}
 use borrow.Author.Needs.{needs}
+use Rattle.tables.proofs.Highest.{held-start, held-yes, held-no, held-none}
+use Rattle.tables.proofs.Ranges.{end-low}
+use Rattle.tables.specs.Enabled.{enabledRange}
+use Rattle.tables.specs.Search.{candidate, highest, held}
 use Rattle.tables.proofs.search.held_for.Statement.{statement}
 use Rattle.tables.proofs.search.held_for.Tie as tie
 

@@ -1,5 +1,5 @@
-use borrow.Author.Needs.{needs}
 use native.Mathlib.Nat.{div-one}
+use borrow.Author.Needs.{needs}
 use Rattle.tables.specs.State.{fields}
 use Rattle.tables.proofs.state.State.of_word.Statement.{statement}
 use Rattle.tables.proofs.state.State.of_word.Tie as tie

@@ -1,5 +1,5 @@
-use borrow.Author.Needs.{needs}
 use native.Mathlib.Nat.{mul-one}
+use borrow.Author.Needs.{needs}
 use Rattle.tables.specs.State.{wordOf}
 use Rattle.tables.proofs.state.State.word.Statement.{statement}
 use Rattle.tables.proofs.state.State.word.Tie as tie
