@@ -41,3 +41,7 @@ valueOf NoSuchPlace = 0
 -- answer 0
 unfoldable pub accepts : Answer → Bool
 accepts answer = eqb (numberOf answer) 0
+
+-- answer 1
+unfoldable pub pauses : Answer → Bool
+pauses answer = eqb (numberOf answer) 1

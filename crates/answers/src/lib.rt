@@ -1,6 +1,6 @@
 // What a call says.
 ghost use mathlib.Core.Path.{_≡_};
-ghost use Rattle.answers.specs.Answer.{numberOf, valueOf, accepts};
+ghost use Rattle.answers.specs.Answer.{numberOf, valueOf, accepts, pauses};
 ghost use Rattle.answers.specs.Verdict.{verdict};
 
 pub enum Answer {
@@ -53,6 +53,12 @@ impl Answer {
         ensures { λ r. ⌜ r ≡ accepts self ⌝ }
     {
         self.number() == 0
+    }
+
+    pub fn pauses(self) -> bool
+        ensures { λ r. ⌜ r ≡ pauses self ⌝ }
+    {
+        self.number() == 1
     }
 }
 

@@ -5,3 +5,13 @@ pub mod StateWord
 pub mod Pasted
 pub mod Copy
 pub mod Readings
+pub mod RegistersKept
+pub mod Units
+pub mod Preparing
+pub mod PlanSound
+pub mod Systems
+pub mod Cuts
+pub mod Advance
+pub mod Bound
+pub mod Faults
+pub mod Run

@@ -4,3 +4,6 @@ pub mod Shape
 pub mod StateWord
 pub mod Copy
 pub mod Readings
+pub mod Premise
+pub mod Cuts
+pub mod Run

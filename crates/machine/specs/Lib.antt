@@ -3,3 +3,4 @@ pub mod Update
 pub mod Calls
 pub mod Setting
 pub mod Reading
+pub mod Run

@@ -9,6 +9,7 @@ use tables::entry::all_bit0_clear;
 use tables::state::State;
 
 pub mod reading;
+pub mod running;
 pub mod setting;
 
 // The two tables stand last: all before them is what one hearing has of its own.

@@ -1,0 +1,158 @@
+-- What holds of every unit, whatever it answers: the registers that it leaves, its offsets and its answers.
+use Prim.Native.Nat.{ℕ, _+_, _-_, _<_, _≤_}
+use mathlib.Core.Path.{_≡_, refl}
+use mathlib.Core.Bool.{Bool, true, false, cond, _||_, true≢false}
+use mathlib.Core.List.{List}
+use native.Mathlib.Omega.{arith}
+use borrow.Author.Tests.{ltb-true, leb-false}
+use lib.Dec.{ltb}
+use Rattle.answers.specs.declared.Answer.{Answer}
+use Rattle.answers.specs.declared.Answer.the-variants.{Done, Paused, UnknownWord, PastRegisters, BadWidth, Fault, OutOfShape, BadValue, NoSuchPlace}
+use Rattle.operands.specs.declared.place.Place.{Place}
+use Rattle.operands.specs.Place.{registerAt}
+use Rattle.operands.specs.Mask.{isOn}
+use Rattle.pairs.specs.declared.Side.{Side}
+use Rattle.pairs.specs.declared.Pair.{Pair}
+use Rattle.pairs.specs.declared.Pair.the-variants.{Found, End}
+use Rattle.pairs.specs.Side.{start, next, past}
+use Rattle.pairs.proofs.Laws.{pair-in}
+use Rattle.pausable.specs.Outcome.{Outcome}
+use Rattle.walk.specs.declared.position.Position.{Position}
+use Rattle.walk.specs.declared.position.Ran.{Ran}
+use Rattle.walk.specs.declared.operation.OperationPlan.{OperationPlan}
+use Rattle.transfers.specs.declared.sides.Sides.{Sides}
+use Rattle.walk.specs.Context.{Context, left, ended, onward}
+use Rattle.walk.specs.Operation.{putAt, elementOf, goOn, afterOn, positionDone, operationUnit}
+use Rattle.transfers.specs.Transfer.{faulted, Transferred, moved, outside, pairOf, afterPair, settled, atPair, transferUnit}
+use Rattle.transfers.specs.SidesReady.{Within}
+use Rattle.demands.proofs.RegistersKept.{RegistersKept, unwritten, one-written, by-test}
+
+-- answers 0, 1 and 5, with no value but an address
+abbrev pub Walked : Answer → Type 0
+Walked (Done value) = value ≡ 0
+Walked Paused = Unit {0}
+Walked UnknownWord = ⊥
+Walked PastRegisters = ⊥
+Walked BadWidth = ⊥
+Walked (Fault address) = Unit {0}
+Walked OutOfShape = ⊥
+Walked BadValue = ⊥
+Walked NoSuchPlace = ⊥
+
+pub record RanSound (vl : ℕ) (ran : Ran) : Type 0 where
+  pub answer : Walked (ran .answer)
+  pub within : Within vl (ran .position)
+
+-- `Writes` says which registers may be written
+pub record UnitSound (vl : ℕ) (Writes : ℕ → Type 0) (registers : List ℕ) (o : Outcome Answer Context) : Type 0 where
+  pub answer : Walked (o .answer)
+  pub within : Within vl (o .state .position)
+  pub kept : RegistersKept Writes registers (o .state .registers)
+
+module _ (vl : ℕ) (position : Position) where
+  ended-sound : (bytes : ℕ) → 0 < vl → RanSound vl (ended bytes position)
+  ended-sound bytes h = record { answer = refl; within = record { source = h; destination = h } }
+
+  onward-sound : (i j : ℕ) → i < vl → j < vl → RanSound vl (onward position i j)
+  onward-sound i j h k = record { answer = tt; within = record { source = h; destination = k } }
+
+  faulted-sound : (address i j : ℕ) → i < vl → j < vl → RanSound vl (faulted address position i j)
+  faulted-sound address i j h k = record { answer = tt; within = record { source = h; destination = k } }
+
+module _ {vl : ℕ} {Writes : ℕ → Type 0} {registers : List ℕ} where
+  sound-left :
+      {ran : Ran} {after : List ℕ} → RanSound vl ran → RegistersKept Writes registers after → (memory : List ℕ) →
+      UnitSound vl Writes registers (left ran after memory)
+  sound-left r k memory = record { answer = r .answer; within = r .within; kept = k }
+
+module _ (p : OperationPlan) (position : Position) (i : ℕ) (h : i < p .vl) where
+  go-on-sound : RanSound (p .vl) (goOn p position i)
+  unfolding goOn
+  go-on-sound =
+      by-test (RanSound (p .vl)) (ltb (i + 1) (p .vl))
+      (λ e. let l = ltb-true (i + 1) (p .vl) e in onward-sound (p .vl) position (i + 1) (i + 1) l l)
+      (λ e. ended-sound (p .vl) position 4 (omega arith))
+
+  after-on-sound : RanSound (p .vl) (afterOn p position i)
+  unfolding afterOn
+  after-on-sound =
+      by-test (RanSound (p .vl)) (p .destination .vector) (λ e. go-on-sound)
+      (λ e. ended-sound (p .vl) position 4 (omega arith))
+
+pub operation-sound :
+    (p : OperationPlan) (Writes : ℕ → Type 0) (c : Context) → c .position .destination < p .vl →
+    ((i : ℕ) → i < p .vl → Writes (registerAt (p .destination) i)) →
+    UnitSound (p .vl) Writes (c .registers) (operationUnit p c)
+unfolding operationUnit positionDone
+operation-sound p Writes c h writes =
+    let i = c .position .destination in
+    by-test (UnitSound (p .vl) Writes (c .registers)) (isOn (p .mask) i)
+    (λ e.
+    sound-left (after-on-sound p (c .position) i h)
+    (one-written (c .registers) (registerAt (p .destination) i) (elementOf p (c .registers) i) (writes i h))
+    (c .memory))
+    (λ e.
+    sound-left (go-on-sound p (c .position) i h)
+    (by-test (RegistersKept Writes (c .registers)) (p .mask .zeroing)
+    (λ f. one-written (c .registers) (registerAt (p .destination) i) 0 (writes i h)) (λ f. unwritten (c .registers)))
+    (c .memory))
+
+start-in : (s : Side) (vl i : ℕ) → i < vl → start s i < vl
+unfolding start
+start-in s vl i h = by-test (λ x. x < vl) (s .walks) (λ e. h) (λ e. omega arith)
+
+next-in : (s : Side) (vl i : ℕ) → 0 < vl → past s vl (next s i) ≡ false → next s i < vl
+next-in s vl i h = by (s .walks) refl
+  where
+    by : (t : Bool) → s .walks ≡ t → past s vl (next s i) ≡ false → next s i < vl
+    by true e = unfold past next in rw e (λ f. leb-false vl (i + 1) f)
+    by false e = unfold past next in rw e (λ f. h)
+
+pub or-false : (a b : Bool) → (a || b) ≡ false → (a ≡ false) × (b ≡ false)
+or-false true b e = absurd (true≢false e)
+or-false false b e = (refl, e)
+
+module _ (s : Sides) (bytes : ℕ) (position : Position) (i j : ℕ) where
+  after-pair-sound : 0 < s .vl → RanSound (s .vl) (afterPair s bytes position i j)
+  unfolding afterPair
+  after-pair-sound h =
+      let one = past (s .source) (s .vl) (next (s .source) i) in
+      let two = past (s .destination) (s .vl) (next (s .destination) j) in
+      by-test (RanSound (s .vl)) (s .single || one || two) (λ e. ended-sound (s .vl) position bytes h)
+      (λ e.
+      let f = or-false (s .single || one) two e in
+      let g = or-false (s .single) one (f .0) in
+      onward-sound (s .vl) position (next (s .source) i) (next (s .destination) j)
+      (next-in (s .source) (s .vl) i h (g .1)) (next-in (s .destination) (s .vl) j h (f .1)))
+
+-- what a transfer may leave of the registers
+abbrev pub TransferKept : (ℕ → Type 0) → List ℕ → Transferred → Type 0
+TransferKept Writes registers (moved after memory) = RegistersKept Writes registers after
+TransferKept Writes registers (outside address) = Unit {0}
+
+module _ (s : Sides) (bytes : ℕ) (Writes : ℕ → Type 0) (c : Context) (w : Within (s .vl) (c .position)) where
+  least : 0 < s .vl
+  least = omega (arith, w .source)
+
+  settled-sound :
+      (i j : ℕ) → i < s .vl → j < s .vl → (t : Transferred) → TransferKept Writes (c .registers) t →
+      UnitSound (s .vl) Writes (c .registers) (settled s bytes c i j t)
+  unfolding settled
+  settled-sound i j h k (moved after memory) r = sound-left (after-pair-sound s bytes (c .position) i j least) r memory
+  settled-sound i j h k (outside address) r =
+      sound-left (faulted-sound (s .vl) (c .position) address i j h k) (unwritten (c .registers)) (c .memory)
+
+  pub transfer-sound :
+      (transfer : Context → ℕ → ℕ → Transferred) →
+      ((i j : ℕ) → i < s .vl → j < s .vl → TransferKept Writes (c .registers) (transfer c i j)) →
+      UnitSound (s .vl) Writes (c .registers) (transferUnit s bytes transfer c)
+  unfolding transferUnit
+  transfer-sound transfer kept = by (pairOf s (c .position)) refl
+    where
+      by :
+          (q : Pair) → pairOf s (c .position) ≡ q →
+          UnitSound (s .vl) Writes (c .registers) (atPair s bytes (transfer c) c q)
+      by End e = unfold atPair in sound-left (ended-sound (s .vl) (c .position) bytes least) (unwritten (c .registers)) (c .memory)
+      by (Found i j) e = unfold atPair pairOf in
+          let b = pair-in (s .source) (s .destination) (s .vl) _ _ i j (start-in (s .source) (s .vl) _ (w .source)) (start-in (s .destination) (s .vl) _ (w .destination)) e in
+          settled-sound i j (b .0) (b .1) (transfer c i j) (kept i j (b .0) (b .1))

@@ -1,0 +1,35 @@
+-- The refusals of a word, in the order 2, 4, 3, or its plan.
+use Prim.Native.Nat.{ℕ}
+use mathlib.Core.Bool.{cond}
+use mathlib.Core.List.{List}
+use Rattle.answers.specs.declared.Answer.{Answer}
+use Rattle.answers.specs.declared.Answer.the-variants.{UnknownWord, PastRegisters, BadWidth}
+use Rattle.decode.specs.declared.decoded.Decoded.{Decoded}
+use Rattle.decode.specs.declared.decoded.Decoded.the-variants.{Operation, Move, Load, Store, Unknown}
+use Rattle.pausable.specs.Call.{Prepared, refused, ready}
+use Rattle.walk.specs.declared.operation.OperationPlan.{OperationPlan}
+use Rattle.transfers.specs.declared.sides.Sides.{Sides}
+use Rattle.transfers.specs.declared.loading.LoadPlan.{LoadPlan}
+use Rattle.transfers.specs.declared.storing.StorePlan.{StorePlan}
+use Rattle.plans.specs.Operands.{operandsOf, every, narrow, fitting}
+use Rattle.plans.specs.Plan.{operationPlan, movePlan, loadPlan, storePlan}
+
+pub data Plan : Type 0 where
+  operation : OperationPlan → Plan
+  move : Sides → Plan
+  load : LoadPlan → Plan
+  store : StorePlan → Plan
+
+-- Answer 3 is given regardless of masks.
+unfoldable pub served : ℕ → Decoded → Plan → Prepared Answer Plan
+served vl word plan =
+    cond (every narrow (operandsOf word))
+    (cond (every (fitting vl) (operandsOf word)) (ready plan) (refused PastRegisters))
+    (refused BadWidth)
+
+unfoldable pub prepared : ℕ → List ℕ → Decoded → Prepared Answer Plan
+prepared vl registers (Operation w) = served vl (Operation w) (operation (operationPlan vl registers w))
+prepared vl registers (Move w) = served vl (Move w) (move (movePlan vl registers w))
+prepared vl registers (Load w) = served vl (Load w) (load (loadPlan vl registers w))
+prepared vl registers (Store w) = served vl (Store w) (store (storePlan vl registers w))
+prepared vl registers Unknown = refused UnknownWord

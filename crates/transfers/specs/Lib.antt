@@ -1,0 +1,5 @@
+pub mod Transfer
+pub mod Moving
+pub mod Loading
+pub mod Storing
+pub mod SidesReady

@@ -1,0 +1,112 @@
+// A load: its source side is the address.
+ghost use mathlib.Core.Path.{_≡_};
+ghost use Prim.Native.Nat.{_<_};
+ghost use Rattle.operands.specs.Place.{registerAt};
+ghost use Rattle.pausable.specs.Walk.{walk};
+ghost use Rattle.walk.specs.Context.{context, left, pausing};
+ghost use Rattle.transfers.specs.Loading.{addressAt, extended, loadUnit};
+ghost use Rattle.transfers.specs.SidesReady.{SidesReady, Within};
+use crate::sides::Sides;
+use answers::Answer;
+use memory::load::Loaded;
+use memory::load::load;
+use operands::place::Place;
+use pairs::Pair;
+use registers::write;
+use scalar::signed::sign_extend;
+use scalar::width::Width;
+use walk::position::Position;
+use walk::position::Ran;
+
+pub struct LoadPlan {
+    pub sides: Sides,
+    pub offset: u64,
+    pub width: Width,
+    pub signed: bool,
+}
+
+// The address of a position.
+pub(crate) fn address_at(
+    place: Place,
+    offset: u64,
+    width: Width,
+    registers: &[u64; 128],
+    i: u32,
+) -> u64
+    requires { ⌜ (registerAt place i < 128) × (i < 64) ⌝ }
+    ensures { λ r. ⌜ r ≡ addressAt place offset width (now (registers .entry)) i ⌝ }
+{
+    let base = std::num::wrapping_add_u64(registers[place.at(i)], offset);
+    if place.vector {
+        return base;
+    }
+    std::num::wrapping_add_u64(base, i as u64 * width.bytes())
+}
+
+impl LoadPlan {
+    // A loaded number as 64 bits.
+    fn extended(self, value: u64) -> u64
+        ensures { λ r. ⌜ r ≡ extended (self .signed) (self .width) value ⌝ }
+    {
+        let width = self.width;
+        if self.signed {
+            sign_extend(width, value)
+        } else {
+            value
+        }
+    }
+
+    // One element.
+    pub fn unit(self, position: Position, registers: &mut [u64; 128], memory: &[u8]) -> Ran
+        requires { ⌜ SidesReady (self .sides) × Within (self .sides .vl) position ⌝ }
+        ensures { λ r. ⌜ left r (now (registers .exit)) (now (memory .entry)) ≡ loadUnit self (context (now (registers .entry)) (now (memory .entry)) position) ⌝ }
+    {
+        let sides = self.sides;
+        match sides.find(position) {
+            Pair::End => position.ended(4),
+            Pair::Found(i, j) => {
+                let width = self.width;
+                let address = address_at(sides.source.place, self.offset, width, registers, i);
+                match load(memory, address, width) {
+                    Loaded::Value(value) => {
+                        let to = sides.destination.place.at(j);
+                        write(registers, to, self.extended(value));
+                        sides.after(position, 4, i, j)
+                    }
+                    Loaded::Outside => Ran {
+                        answer: Answer::Fault(address),
+                        position: position.at(i, j),
+                    },
+                }
+            }
+        }
+    }
+
+    // At most as many elements as allowed.
+    pub fn walk(
+        self,
+        position: Position,
+        allowance: u16,
+        registers: &mut [u64; 128],
+        memory: &[u8],
+    ) -> Ran
+        requires { ⌜ SidesReady (self .sides) × Within (self .sides .vl) position ⌝ }
+        ensures { λ r. ⌜ left r (now (registers .exit)) (now (memory .entry)) ≡ walk pausing (loadUnit self) allowance (context (now (registers .entry)) (now (memory .entry)) position) ⌝ }
+    {
+        let mut now = position;
+        let mut left = allowance;
+        while 0 < left {
+            let ran = self.unit(now, registers, memory);
+            let answer = ran.answer;
+            if !answer.pauses() {
+                return ran;
+            }
+            now = ran.position;
+            left -= 1;
+        }
+        Ran {
+            answer: Answer::Paused,
+            position: now,
+        }
+    }
+}

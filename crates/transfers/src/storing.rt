@@ -1,0 +1,74 @@
+// A store: its destination side is the address.
+ghost use mathlib.Core.Path.{_≡_};
+ghost use Rattle.pausable.specs.Walk.{walk};
+ghost use Rattle.walk.specs.Context.{context, left, pausing};
+ghost use Rattle.transfers.specs.SidesReady.{SidesReady, Within};
+ghost use Rattle.transfers.specs.Storing.{storeUnit};
+use crate::loading::address_at;
+use crate::sides::Sides;
+use answers::Answer;
+use memory::store::Stored;
+use memory::store::store;
+use pairs::Pair;
+use scalar::width::Width;
+use walk::position::Position;
+use walk::position::Ran;
+
+pub struct StorePlan {
+    pub sides: Sides,
+    pub offset: u64,
+    pub width: Width,
+}
+
+impl StorePlan {
+    // One element.
+    pub fn unit(self, position: Position, registers: &[u64; 128], memory: &mut [u8]) -> Ran
+        requires { ⌜ SidesReady (self .sides) × Within (self .sides .vl) position ⌝ }
+        ensures { λ r. ⌜ left r (now (registers .entry)) (now (memory .exit)) ≡ storeUnit self (context (now (registers .entry)) (now (memory .entry)) position) ⌝ }
+    {
+        let sides = self.sides;
+        match sides.find(position) {
+            Pair::End => position.ended(4),
+            Pair::Found(i, j) => {
+                let width = self.width;
+                let address = address_at(sides.destination.place, self.offset, width, registers, j);
+                let value = registers[sides.source.place.at(i)];
+                match store(memory, address, width, value) {
+                    Stored::Done => sides.after(position, 4, i, j),
+                    Stored::Outside => Ran {
+                        answer: Answer::Fault(address),
+                        position: position.at(i, j),
+                    },
+                }
+            }
+        }
+    }
+
+    // At most as many elements as allowed.
+    pub fn walk(
+        self,
+        position: Position,
+        allowance: u16,
+        registers: &[u64; 128],
+        memory: &mut [u8],
+    ) -> Ran
+        requires { ⌜ SidesReady (self .sides) × Within (self .sides .vl) position ⌝ }
+        ensures { λ r. ⌜ left r (now (registers .entry)) (now (memory .exit)) ≡ walk pausing (storeUnit self) allowance (context (now (registers .entry)) (now (memory .entry)) position) ⌝ }
+    {
+        let mut now = position;
+        let mut left = allowance;
+        while 0 < left {
+            let ran = self.unit(now, registers, memory);
+            let answer = ran.answer;
+            if !answer.pauses() {
+                return ran;
+            }
+            now = ran.position;
+            left -= 1;
+        }
+        Ran {
+            answer: Answer::Paused,
+            position: now,
+        }
+    }
+}

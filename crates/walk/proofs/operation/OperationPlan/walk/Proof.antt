@@ -1,0 +1,67 @@
+use Prim.Native.Nat.{ℕ, _<_}
+use mathlib.Core.List.{List}
+use mathlib.Core.Path.{_≡_, refl, sym, _∙_}
+use native.Mathlib.Omega.{arith}
+use borrow.Author.Needs.{needs}
+use borrow.Author.Tests.{not-true, not-false}
+use Rattle.pausable.specs.Walk.{walk}
+use Rattle.pausable.proofs.Turn.{walk-more, walk-end, walk-none}
+use Rattle.walk.specs.Context.{context, pausing}
+use Rattle.walk.specs.Operation.{operationUnit}
+use Rattle.walk.proofs.OperationLaws.{paused-below}
+use Rattle.walk.proofs.operation.OperationPlan.walk.Statement.{statement}
+use Rattle.walk.proofs.operation.OperationPlan.walk.Tie as tie
+
+abbrev Inv-loop : tie.InvT-loop
+Inv-loop self allowance registers₀ now₀ left₀ registers now left =
+    (now .destination < self .vl) ×
+    ((memory : List ℕ) →
+    walk pausing (operationUnit self) left (context registers memory now)
+    ≡ walk pausing (operationUnit self) allowance (context registers₀ memory now₀))
+
+abbrev μ-loop : tie.MeasureT-loop
+μ-loop self allowance registers₀ now₀ left₀ registers now left = left
+
+loop-holds : tie.Need-loop-holds Inv-loop μ-loop
+loop-holds c = (c .pre .1, λ memory. refl)
+
+unit-requires : tie.Need-unit-requires Inv-loop μ-loop
+unit-requires c κs = (c .before .before .before .pre .0, c .before .before .loop .inv .0)
+
+returns : tie.Need-returns Inv-loop μ-loop
+returns c memory =
+    let turn = c .before .before .before .before in
+    let some : 0 < turn .before .loop .left = omega (arith, turn .loop-test .taken) in
+    walk-end pausing _ _ _ _ some (c .before .before .unit .ensures memory)
+    (sym (c .before .pauses .ensures) ∙ not-true _ (c .if1 .taken))
+    ∙ turn .before .loop .inv .1 memory
+
+loop-again : tie.Need-loop-again Inv-loop μ-loop
+loop-again c =
+    let ran = c .before .before .before in
+    let turn = ran .before .before in
+    let some : 0 < turn .before .loop .left = omega (arith, turn .loop-test .taken) in
+    let paused = sym (c .before .before .pauses .ensures) ∙ not-false _ (c .before .if1 .left) in (
+      paused-below _ _ _ _ _ (ran .unit .ensures) paused,
+      λ memory.
+          walk-more pausing _ _ _ _ some (ran .unit .ensures memory) paused
+          ∙ turn .before .loop .inv .1 memory,
+    )
+
+returns-2 : tie.Need-returns-2 Inv-loop μ-loop
+returns-2 c memory = walk-none pausing _ _ _ (c .loop-test .left) ∙ c .before .loop .inv .1 memory
+
+pub walk-spec : {M : Type 1} → statement M
+walk-spec =
+    tie.close
+    (tie.spec
+    Inv-loop
+    μ-loop
+    loop-holds
+    unit-requires
+    (λ c κs. search needs)
+    returns
+    (λ c. search needs)
+    (λ c. search needs)
+    loop-again
+    returns-2)
