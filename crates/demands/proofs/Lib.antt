@@ -15,3 +15,4 @@ pub mod Advance
 pub mod Bound
 pub mod Faults
 pub mod Run
+pub mod WhyThePremise

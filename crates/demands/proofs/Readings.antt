@@ -1,15 +1,78 @@
 -- The bench readings, by computation.
 use mathlib.Core.Path.{refl}
-use Rattle.answers.specs.Answer.{accepts}
+use Rattle.answers.specs.Answer.{accepts, pauses}
 use Rattle.answers.specs.Verdict.{verdict}
+use Rattle.registers.specs.Written.{written}
+use Rattle.scalar.specs.Compute.{computed}
+use Rattle.scalar.specs.Signed.{signExtended}
 use Rattle.tables.specs.Enabled.{enabledRange}
 use Rattle.tables.specs.Entry.{clearBelow}
+use Rattle.tables.specs.Search.{answers, candidate, highest, held}
 use Rattle.tables.specs.State.{stateInShape, fields, wordOf, goodWord}
+use Rattle.memory.specs.Access.{inside, located}
+use Rattle.memory.specs.LittleEndian.{number}
+use Rattle.memory.specs.Transfer.{loaded}
+use Rattle.encoding.specs.Listing.{funct3Rows, funct6Rows, funct7Rows, firstForm, lookUp}
+use Rattle.decode.specs.Naming.{named}
+use Rattle.decode.specs.Decoding.{decoded, decodedAs, compressedMove}
+use Rattle.operands.specs.Place.{registerAt, fits}
+use Rattle.operands.specs.Mask.{onBits, maskBy, isOn}
+use Rattle.pairs.specs.Side.{start, next, past}
+use Rattle.pairs.specs.Pair.{firstOn, skipped, pairFrom}
+use Rattle.pausable.specs.Walk.{walk}
+use Rattle.pausable.specs.Call.{begun}
+use Rattle.walk.specs.Operation.{elementOf, goOn, afterOn, positionDone, operationUnit}
+use Rattle.transfers.specs.Transfer.{pairOf, afterPair, settled, atPair, transferUnit}
+use Rattle.transfers.specs.Moving.{moveElement, moveUnit}
+use Rattle.transfers.specs.Loading.{addressAt, loadElement, loadUnit}
+use Rattle.plans.specs.Operands.{every, narrow, fitting}
+use Rattle.plans.specs.Plan.{operationPlan, movePlan, loadPlan}
+use Rattle.handler.specs.Prepare.{served, prepared}
 use Rattle.machine.specs.Shape.{inShape, roomInShape, tablesInShape}
-use Rattle.machine.specs.Setting.{setStateWord}
+use Rattle.machine.specs.Setting.{setStateWord, setRegisterEntry, setRegister}
 use Rattle.machine.specs.Reading.{told}
-use Rattle.demands.specs.Readings.{Readings}
+use Rattle.machine.specs.Run.{prepare, unit, run}
+use Rattle.demands.specs.Readings.{
+  Readings,
+  putFrom,
+  base,
+  settings,
+  holding,
+  tagged,
+  masked,
+  withLengths,
+  positioned,
+  nines,
+  scalarDestination,
+  sourceMask,
+  destinationMask,
+  loading,
+  countingFrom,
+  full,
+  sums,
+}
 
 pub readings : Readings
-unfolding enabledRange clearBelow stateInShape fields wordOf goodWord inShape roomInShape tablesInShape accepts verdict setStateWord told
-readings = record { p10-read = refl; p10-set = refl; p11-9 = refl; p11-15 = refl; p11-31 = refl }
+unfolding accepts pauses verdict written computed signExtended enabledRange clearBelow answers candidate highest held stateInShape fields wordOf goodWord inside located number loaded funct3Rows funct6Rows funct7Rows firstForm lookUp named decoded decodedAs compressedMove registerAt fits onBits maskBy isOn start next past firstOn skipped pairFrom walk begun elementOf goOn afterOn positionDone operationUnit pairOf afterPair settled atPair transferUnit moveElement moveUnit addressAt loadElement loadUnit every narrow fitting operationPlan movePlan loadPlan served prepared inShape roomInShape tablesInShape setStateWord setRegisterEntry setRegister told prepare unit run putFrom base settings holding tagged masked withLengths positioned nines scalarDestination sourceMask destinationMask loading countingFrom full sums
+readings = record {
+  base-set = refl;
+  p1 = λ memory. refl;
+  p2 = λ memory. refl;
+  p3 = λ memory. refl;
+  p4 = λ memory. refl;
+  p5 = λ memory. refl;
+  p6 = λ memory. refl;
+  p7 = λ memory. refl;
+  p8 = λ memory. refl;
+  p9-short = refl;
+  p9-whole = refl;
+  p10-read = refl;
+  p10-set = refl;
+  p11-9 = refl;
+  p11-15 = refl;
+  p11-31 = refl;
+  p12-served = λ memory. refl;
+  p12-refused = λ memory. refl;
+  p12-source-served = λ memory. refl;
+  p12-source-refused = λ memory. refl;
+}

@@ -7,3 +7,4 @@ pub mod Readings
 pub mod Premise
 pub mod Cuts
 pub mod Run
+pub mod WhyThePremise

@@ -1,0 +1,43 @@
+-- The two outcomes, by computation, and that they differ: register 42 is 0 in one and 4 in the other.
+use Prim.Native.Nat.{ℕ}
+use mathlib.Core.Logic.{inl}
+use mathlib.Core.Path.{_≡_, refl, ap}
+use native.Mathlib.Omega.{arith}
+use lib.ListN.{getD}
+use Rattle.answers.specs.declared.Answer.{Answer}
+use Rattle.answers.specs.Answer.{pauses}
+use Rattle.registers.specs.Written.{written}
+use Rattle.scalar.specs.Compute.{computed}
+use Rattle.tables.specs.Enabled.{enabledRange}
+use Rattle.tables.specs.Entry.{clearBelow}
+use Rattle.tables.specs.Search.{answers, candidate, highest, held}
+use Rattle.tables.specs.State.{stateInShape}
+use Rattle.encoding.specs.Listing.{funct3Rows, funct6Rows, funct7Rows, firstForm, lookUp}
+use Rattle.decode.specs.Naming.{named}
+use Rattle.decode.specs.Decoding.{decoded, decodedAs}
+use Rattle.operands.specs.Place.{registerAt, fits}
+use Rattle.operands.specs.Mask.{onBits, maskBy, isOn}
+use Rattle.pausable.specs.Outcome.{Outcome}
+use Rattle.pausable.specs.Walk.{walk}
+use Rattle.pausable.specs.Call.{begun, listed}
+use Rattle.walk.specs.Operation.{elementOf, goOn, afterOn, positionDone, operationUnit}
+use Rattle.plans.specs.Operands.{every, narrow, fitting}
+use Rattle.plans.specs.Plan.{operationPlan}
+use Rattle.handler.specs.Prepare.{served, prepared}
+use Rattle.machine.specs.Shape.{inShape, roomInShape, tablesInShape}
+use Rattle.machine.specs.Run.{System, prepare, unit, run}
+use Rattle.demands.specs.Readings.{putFrom, base, holding, masked, positioned}
+use Rattle.demands.specs.WhyThePremise.{WhyThePremise, maskWritten}
+
+register42 : Outcome Answer System → ℕ
+register42 o = getD (o .state .machine .registers) 42 0
+
+pub why-the-premise : WhyThePremise
+unfolding register42 pauses written computed enabledRange clearBelow answers candidate highest held stateInShape funct3Rows funct6Rows funct7Rows firstForm lookUp named decoded decodedAs registerAt fits onBits maskBy isOn walk begun listed elementOf goOn afterOn positionDone operationUnit every narrow fitting operationPlan served prepared inShape roomInShape tablesInShape prepare unit run putFrom base holding masked positioned maskWritten
+why-the-premise = record {
+  uncut = λ memory. refl;
+  first = λ memory. refl;
+  cut = λ memory. refl;
+  differ = λ memory e. let z : _≡_ {A = ℕ} 0 4 = ap register42 e in omega arith;
+  not-apart = λ apart. apart 41 (inl (λ e. omega (arith, e), refl)) (inl (omega arith, omega arith));
+}
