@@ -13,6 +13,7 @@ pub mod running;
 pub mod setting;
 
 // The two tables stand last: all before them is what one hearing has of its own.
+#[repr(C)]
 pub struct Machine {
     pub registers: [u64; 128],
     pub pc: u64,

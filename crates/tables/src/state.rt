@@ -3,6 +3,7 @@ ghost use mathlib.Core.Path.{_≡_};
 ghost use Prim.Native.Nat.{_-_, min};
 ghost use Rattle.tables.specs.State.{fields, wordOf, cut, goodWord, withVl, withMvl, stateInShape};
 
+#[repr(C)]
 pub struct State {
     pub mvl: u32,
     pub vl: u32,
