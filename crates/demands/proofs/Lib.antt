@@ -16,3 +16,4 @@ pub mod Bound
 pub mod Faults
 pub mod Run
 pub mod WhyThePremise
+pub mod Masks

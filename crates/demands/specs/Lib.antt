@@ -8,3 +8,4 @@ pub mod Premise
 pub mod Cuts
 pub mod Run
 pub mod WhyThePremise
+pub mod Masks
