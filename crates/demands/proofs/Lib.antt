@@ -17,3 +17,4 @@ pub mod Faults
 pub mod Run
 pub mod WhyThePremise
 pub mod Masks
+pub mod PastRegisters

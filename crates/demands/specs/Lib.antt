@@ -9,3 +9,4 @@ pub mod Cuts
 pub mod Run
 pub mod WhyThePremise
 pub mod Masks
+pub mod PastRegisters
