@@ -61,23 +61,25 @@ static uint64_t sext(uint32_t v)
     return (uint64_t)(int64_t)(int32_t)v;
 }
 
-static uint64_t compute(unsigned f, int alt, int w, uint64_t a, uint64_t b)
+/* by funct3, 8 more for SUB and arithmetic shifts, 16 more for a W form */
+static uint64_t compute(unsigned op, uint64_t a, uint64_t b)
 {
-    if (w)
-        switch (f) {
-        case 0: return sext(alt ? (uint32_t)a - (uint32_t)b : (uint32_t)a + (uint32_t)b);
-        case 1: return sext((uint32_t)a << (b & 31));
-        default: return alt ? sext((uint32_t)((int32_t)a >> (b & 31))) : sext((uint32_t)a >> (b & 31));
-        }
-    switch (f) {
-    case 0: return alt ? a - b : a + b;
+    switch (op) {
+    case 0: return a + b;
     case 1: return a << (b & 63);
     case 2: return (int64_t)a < (int64_t)b;
     case 3: return a < b;
     case 4: return a ^ b;
-    case 5: return alt ? (uint64_t)((int64_t)a >> (b & 63)) : a >> (b & 63);
+    case 5: return a >> (b & 63);
     case 6: return a | b;
-    default: return a & b;
+    case 7: return a & b;
+    case 8: return a - b;
+    case 13: return (uint64_t)((int64_t)a >> (b & 63));
+    case 16: return sext((uint32_t)a + (uint32_t)b);
+    case 17: return sext((uint32_t)a << (b & 31));
+    case 21: return sext((uint32_t)a >> (b & 31));
+    case 24: return sext((uint32_t)a - (uint32_t)b);
+    default: return sext((uint32_t)((int32_t)a >> (b & 31)));
     }
 }
 
@@ -90,9 +92,9 @@ static int ended(struct machine *m, unsigned bytes)
 
 static int operation(struct machine *m, uint32_t word, uint16_t allowance)
 {
-    int w = word >> 3 & 1, immediate = !(word >> 5 & 1);
-    unsigned f = word >> 12 & 7;
-    int alt = (word >> 30 & 1) && (!immediate || f == 5);
+    int immediate = !(word >> 5 & 1);
+    unsigned f = word >> 12 & 7, alt = (word >> 30 & 1) && (!immediate || f == 5);
+    unsigned op = (word >> 3 & 1) << 4 | alt << 3 | f;
     struct operand d = name(m, word >> 7 & 31), a = name(m, word >> 15 & 31), b = { 0, 0 };
     struct mask k = mask_of(m, word >> 7 & 31);
     uint64_t value = (uint64_t)(int64_t)((int32_t)word >> 20);
@@ -100,33 +102,41 @@ static int operation(struct machine *m, uint32_t word, uint16_t allowance)
         b = name(m, word >> 20 & 31);
     if (at(d, m->vl - 1) > 127 || at(a, m->vl - 1) > 127 || at(b, m->vl - 1) > 127)
         return 3;
-    unsigned i = m->destination;
-    for (; allowance; allowance--) {
+    uint64_t *x = m->registers;
+    const uint64_t *pa = x + a.r, *pb = immediate ? &value : x + b.r;
+    unsigned sa = (unsigned)a.vector, sb = (unsigned)b.vector, vl = m->vl, i = m->destination;
+    if (!allowance)
+        return 1;
+    do {
+        unsigned to = at(d, i);
         if (k.on >> i & 1) {
-            uint64_t y = immediate ? value : m->registers[at(b, i)];
-            uint64_t r = compute(f, alt, w, m->registers[at(a, i)], y);
-            if (at(d, i))
-                m->registers[at(d, i)] = r;
+            uint64_t r = compute(op, pa[sa * i], pb[sb * i]);
+            if (to)
+                x[to] = r;
             if (!d.vector)
                 return ended(m, 4);
-        } else if (k.zeroing && at(d, i)) {
-            m->registers[at(d, i)] = 0;
+        } else if (k.zeroing && to) {
+            x[to] = 0;
         }
         i++;
-        if (i == m->vl)
+        if (i == vl)
             return ended(m, 4);
-        m->source = m->destination = i;
-    }
+    } while (--allowance);
+    m->source = m->destination = i;
     return 1;
 }
 
-static uint64_t extend(unsigned f, uint64_t v)
+static uint64_t fetch(unsigned f, const uint8_t *from)
 {
-    switch (f) {
-    case 0: return (uint64_t)(int64_t)(int8_t)v;
-    case 1: return (uint64_t)(int64_t)(int16_t)v;
-    case 2: return sext((uint32_t)v);
-    default: return v;
+    int8_t b;
+    int16_t h;
+    int32_t w;
+    uint64_t v;
+    switch (f & 3) {
+    case 0: memcpy(&b, from, 1); return f & 4 ? (uint8_t)b : (uint64_t)b;
+    case 1: memcpy(&h, from, 2); return f & 4 ? (uint16_t)h : (uint64_t)h;
+    case 2: memcpy(&w, from, 4); return f & 4 ? (uint32_t)w : (uint64_t)w;
+    default: memcpy(&v, from, 8); return v;
     }
 }
 
@@ -138,35 +148,32 @@ static int load(struct machine *m, uint32_t word, uint16_t allowance, const uint
     uint64_t offset = (uint64_t)(int64_t)((int32_t)word >> 20);
     if (at(d, m->vl - 1) > 127 || at(a, m->vl - 1) > 127)
         return 3;
-    unsigned i = m->source, j = d.vector ? m->destination : 0;
-    for (; allowance; allowance--) {
-        while (i < m->vl && !(ka.on >> i & 1))
+    uint64_t *x = m->registers, stride = a.vector ? 0 : bytes;
+    unsigned vl = m->vl, i = m->source, j = d.vector ? m->destination : 0;
+    if (!allowance)
+        return 1;
+    do {
+        while (i < vl && !(ka.on >> i & 1))
             i++;
-        while (d.vector && j < m->vl && !(kd.on >> j & 1))
+        while (d.vector && j < vl && !(kd.on >> j & 1))
             j++;
-        if (i == m->vl || (d.vector && j == m->vl))
+        if (i == vl || (d.vector && j == vl))
             return ended(m, 4);
-        uint64_t address = m->registers[at(a, i)] + offset + (a.vector ? 0 : (uint64_t)i * bytes);
+        uint64_t address = x[at(a, i)] + offset + i * stride;
         if (size < bytes || address > size - bytes) {
             m->source = i;
             m->destination = j;
             return 5;
         }
-        uint64_t v = 0;
-        switch (f & 3) {
-        case 0: v = memory[address]; break;
-        case 1: { uint16_t t; memcpy(&t, memory + address, 2); v = t; break; }
-        case 2: { uint32_t t; memcpy(&t, memory + address, 4); v = t; break; }
-        default: memcpy(&v, memory + address, 8);
-        }
+        uint64_t v = fetch(f, memory + address);
         if (at(d, j))
-            m->registers[at(d, j)] = extend(f, v);
+            x[at(d, j)] = v;
         i++;
-        if (!d.vector || i == m->vl || ++j == m->vl)
+        if (!d.vector || i == vl || ++j == vl)
             return ended(m, 4);
-        m->source = i;
-        m->destination = j;
-    }
+    } while (--allowance);
+    m->source = i;
+    m->destination = j;
     return 1;
 }
 
