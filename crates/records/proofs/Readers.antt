@@ -1,0 +1,111 @@
+-- A reader that takes a byte.
+use Prim.Native.Nat.{ℕ, zero, suc, _+_, _<_, _≤_}
+use native.Mathlib.Nat.{le-refl}
+use native.Mathlib.Numerals.{add-one}
+use native.Mathlib.Omega.{arith}
+use mathlib.Core.Path.{_≡_, refl, sym, ap, _∙_}
+use mathlib.Core.Bool.{Bool, true, false}
+use mathlib.Core.List.{List, [], _∷_, _++_}
+use lib.ListN.{length, getD, set, take, drop, length-set}
+use lib.Seq.{take-suc-set, take-set-le, length-take-le, drop-cons}
+use Rattle.records.specs.Record.{nextRecord}
+use Rattle.records.specs.Reading.{Reading, reading, advance, takenBy, taken, searched, firstOf, found}
+use Rattle.records.specs.Reader.{nothingTaken, readingOf, Ready, Taking}
+use Rattle.records.specs.declared.reader.Reader.{Reader}
+use Rattle.records.specs.declared.reader.Taken.{Taken}
+use Rattle.records.specs.declared.reader.Event.the-variants as event
+use Rattle.records.specs.declared.record.Record.{Record}
+use Rattle.records.specs.declared.record.Next.{Next}
+use Rattle.records.specs.declared.record.Next.the-variants.{Whole, Cut, Unknown, End}
+use Rattle.records.proofs.Layouts.{whole-within, cut-short}
+
+drop-all : (l : List ℕ) (i : ℕ) → length l ≤ i → drop i l ≡ []
+drop-all [] zero h = refl
+drop-all [] (suc i) h = refl
+drop-all (x ∷ l) zero h = absurd (omega arith)
+drop-all (x ∷ l) (suc i) h = drop-all l i (omega arith)
+
+abbrev pub reader : List ℕ → ℕ → ℕ → Bool → Reader
+reader kept length offset stopped = record { kept = kept; length = length; offset = offset; stopped = stopped }
+
+module _ (r : Reader) (byte : ℕ) (ready : Ready r 1) (full : length (r .kept) ≡ 11) where
+  pub taking-none : r .stopped ≡ true → Taking r byte (nothingTaken r)
+  unfolding taken
+  taking-none e = record { same = rw e; sized = full; short = ready .short; reached = omega arith }
+
+  -- the bytes with the new one after the others
+  abbrev pub stored : List ℕ
+  stored = set (r .kept) (r .length) byte
+
+  stored-size : length stored ≡ 11
+  stored-size = rw length-set full
+
+  pub stored-length : r .length + 1 ≤ length stored
+  stored-length = rw length-set (omega (arith, ready .short))
+
+  pub part-length : r .length + 1 ≡ length (take (r .length + 1) stored)
+  part-length = sym (length-take-le (r .length + 1) stored stored-length)
+
+  more : take (r .length + 1) stored ≡ take (r .length) (r .kept) ++ byte ∷ []
+  more = rw (add-one (r .length)) (take-suc-set (r .kept) (r .length) byte (omega (arith, ready .short)))
+
+  same : take (r .length) stored ≡ take (r .length) (r .kept)
+  same = take-set-le (r .length) (r .kept) (r .length) byte (le-refl (r .length))
+
+  module _ (going : r .stopped ≡ false) where
+    by-next :
+        (n : Next) → nextRecord (take (r .length + 1) stored) 0 ≡ n →
+        takenBy (readingOf r) (take (r .length + 1) stored) n ≡ taken (readingOf r) byte
+    unfolding taken
+    by-next n e = rw (going, ← more, e)
+
+    pub taking-whole :
+        (w : Record) (next : ℕ) → nextRecord (take (r .length + 1) stored) 0 ≡ Whole w next →
+        Taking r byte (record { event = event.Whole w; reader = reader stored 0 (r .offset + next) (r .stopped) })
+    taking-whole w next e = record {
+      sized = stored-size;
+      same = ap (λ (s : Bool). advance (event.Whole w) (reading [] (r .offset + next) s)) going ∙ by-next (Whole w next) e;
+      short = omega arith;
+      reached = omega (arith, whole-within (take (r .length + 1) stored) 0 next e .end, part-length);
+    }
+
+    pub taking-cut :
+        nextRecord (take (r .length + 1) stored) 0 ≡ Cut →
+        Taking r byte (nothingTaken (reader stored (r .length + 1) (r .offset) (r .stopped)))
+    taking-cut e = record {
+      sized = stored-size;
+      same = ap (λ (s : Bool). advance event.Nothing (reading (take (r .length + 1) stored) (r .offset) s)) going ∙ by-next Cut e;
+      short = omega (arith, cut-short (take (r .length + 1) stored) 0 e, part-length);
+      reached = omega arith;
+    }
+
+    pub taking-unknown :
+        nextRecord (take (r .length + 1) stored) 0 ≡ Unknown →
+        Taking r byte (nothingTaken (reader stored (r .length) (r .offset) true))
+    taking-unknown e = record { sized = stored-size; same = rw same (by-next Unknown e); short = ready .short; reached = omega arith }
+
+    pub taking-end :
+        nextRecord (take (r .length + 1) stored) 0 ≡ End →
+        Taking r byte (nothingTaken (reader stored (r .length) (r .offset) (r .stopped)))
+    taking-end e = record { sized = stored-size; same = rw same (by-next End e); short = ready .short; reached = omega arith }
+
+-- The first record in the bytes from a place on.
+module _ (r : Reader) (piece : List ℕ) (i : ℕ) where
+  pub found-none : length piece ≤ i → searched event.Nothing (readingOf r) (drop i piece) ≡ found (readingOf r) (drop i piece)
+  unfolding found
+  found-none h = rw (drop-all piece i h)
+
+  module _ (t : Taken) (inside : i < length piece) (taking : Taking r (getD piece i 0) t) where
+    step :
+        found (readingOf r) (drop i piece)
+        ≡ firstOf (t .event) (searched (t .event) (readingOf (t .reader)) (drop (i + 1) piece)) (found (readingOf (t .reader)) (drop (i + 1) piece))
+    unfolding found
+    step = rw (drop-cons piece i 0 inside, add-one i, ← taking .same)
+
+    pub found-whole :
+        (w : Record) → t .event ≡ event.Whole w →
+        searched (t .event) (readingOf (t .reader)) (drop (i + 1) piece) ≡ found (readingOf r) (drop i piece)
+    found-whole w e = sym (step ∙ rw e)
+
+    pub found-later : t .event ≡ event.Nothing → found (readingOf (t .reader)) (drop (i + 1) piece) ≡ found (readingOf r) (drop i piece)
+    found-later e = sym (step ∙ rw e)

@@ -1,0 +1,164 @@
+-- The records of a piece, one after the other.
+use Prim.Native.Nat.{ℕ, _+_, _-_, _*_, _<_, _≤_}
+use native.Mathlib.Omega.{arith}
+use mathlib.Core.Path.{_≡_, refl, sym, ap, _∙_}
+use mathlib.Core.List.{List, [], _∷_, _++_, append-assoc, append-nil}
+use lib.ListN.{length, drop, take}
+use lib.Seq.{length-take-le}
+use Rattle.machine.specs.declared.Machine.{Machine}
+use Rattle.machine.specs.Run.{System, system}
+use Rattle.records.specs.declared.reader.Reader.{Reader}
+use Rattle.records.specs.declared.reader.Found.{Found}
+use Rattle.records.specs.Reader.{readingOf, Finding}
+use Rattle.records.proofs.Reaching.{found-far}
+use Rattle.text.specs.Put.{Put}
+use Rattle.text.proofs.Puts.{put-none, put-join, put-length, put-over, put-next}
+use Rattle.stream.specs.declared.feed.Text.the-variants.{Written}
+use Rattle.stream.specs.declared.feed.Applied.{Applied}
+use Rattle.stream.specs.Feed.{over, finishResult, feedWith, streamOf, acceptedFeed, Applying}
+use Rattle.stream.proofs.Accepting.{Accepted}
+use Rattle.records.specs.declared.reader.Event.{Event}
+use Rattle.records.specs.declared.reader.Event.the-variants.{Whole, Nothing}
+use Rattle.records.specs.declared.record.Record.{Record}
+use Rattle.records.specs.Reading.{Reading, Search, searched, firstOf, taken, found}
+use Rattle.stream.specs.Apply.{applied, printed}
+use Rattle.stream.specs.Stream.{Stream, stream, Fed, fedWith, fedEvent, after, fed}
+
+-- feeding some bytes is feeding up to the first record that ends, and then the rest
+abbrev searchFed : Search → System → Fed
+searchFed s system =
+    let first = fedEvent (s .event) (s .reading) system in
+    after (first .text) (fed (first .stream) (s .rest))
+
+fed-found : (r : Reading) (system : System) (bytes : List ℕ) → fed (stream r system) bytes ≡ searchFed (found r bytes) system
+unfolding fed found fedEvent
+fed-found r system [] = refl
+fed-found r system (b ∷ bs) = by (taken r b .event) (fed-found (taken r b .reading) system bs)
+  where
+    by :
+        (e : Event) →
+        fed (stream (taken r b .reading) system) bs ≡ searchFed (found (taken r b .reading) bs) system →
+        after (fedEvent e (taken r b .reading) system .text) (fed (fedEvent e (taken r b .reading) system .stream) bs)
+        ≡ searchFed (firstOf e (searched e (taken r b .reading) bs) (found (taken r b .reading) bs)) system
+    by (Whole w) later = refl
+    by Nothing later = later
+
+-- where none ends, no byte is left
+none-rest : (r : Reading) (bytes : List ℕ) → found r bytes .event ≡ Nothing → found r bytes .rest ≡ []
+unfolding found
+none-rest r [] e = refl
+none-rest r (b ∷ bs) e = by (taken r b .event) e (none-rest (taken r b .reading) bs)
+  where
+    by :
+        (v : Event) → firstOf v (searched v (taken r b .reading) bs) (found (taken r b .reading) bs) .event ≡ Nothing →
+        (found (taken r b .reading) bs .event ≡ Nothing → found (taken r b .reading) bs .rest ≡ []) →
+        firstOf v (searched v (taken r b .reading) bs) (found (taken r b .reading) bs) .rest ≡ []
+    by (Whole w) e later = cc
+    by Nothing e later = later e
+
+module _ (r next : Reading) (system : System) (bytes rest : List ℕ) where
+  pub feed-none : searched Nothing next rest ≡ found r bytes → fedWith [] (stream next system) ≡ fed (stream r system) bytes
+  unfolding fed fedEvent
+  feed-none e =
+      let none : rest ≡ [] = ap (λ (s : Search). s .rest) e ∙ none-rest r bytes (ap (λ (s : Search). s .event) (sym e)) in
+      sym (fed-found r system bytes ∙ rw (← e, none))
+
+  pub feed-whole :
+      (w : Record) → searched (Whole w) next rest ≡ found r bytes →
+      after (printed w (applied w system)) (fed (stream next (applied w system .state)) rest) ≡ fed (stream r system) bytes
+  unfolding fedEvent
+  feed-whole w e = sym (fed-found r system bytes ∙ rw (← e))
+
+-- more text before what is fed later
+pub after-more : (a b : List ℕ) (f : Fed) → after (a ++ b) f ≡ after a (after b f)
+after-more a b f = rw append-assoc
+
+pub after-last : (a : List ℕ) (s : Stream) → after a (fedWith [] s) ≡ fedWith a s
+after-last a s = rw append-nil
+
+-- the text of the end, put from the start on
+pub finish-written :
+    {old new text : List ℕ} {next : ℕ} → Put old 0 text new next → next ≤ length old →
+    finishResult (Written next) new ≡ finishResult (Written (length text)) (over text old)
+finish-written p h = rw (put-next p, put-over p (omega (arith, put-next p)))
+
+-- what the loop over the records of a piece keeps
+pub record Progress (piece memory₀ out₀ : List ℕ) (reader₀ : Reader) (machine₀ : Machine)
+    (memory out : List ℕ) (reader : Reader) (machine : Machine) (i at : ℕ) : Type 0
+  where
+    pub done : List ℕ
+    pub short : reader .length ≤ 10
+    pub reached : reader .offset + reader .length + (length piece - i) ≤ reader₀ .offset + reader₀ .length + length piece
+    pub onward : reader₀ .offset ≤ reader .offset
+    pub room : at ≤ 14 * (reader .offset - reader₀ .offset)
+    pub put : Put out₀ 0 done out at
+    pub held : length memory ≡ length memory₀
+    pub same : after done (fed (streamOf reader machine memory) (drop i piece)) ≡ fed (streamOf reader₀ machine₀ memory₀) piece
+
+module _ (piece memory₀ out₀ : List ℕ) (reader₀ : Reader) (machine₀ : Machine)
+    (accepts : Accepted reader₀ (length piece) (length out₀))
+  where
+    pub started : Progress piece memory₀ out₀ reader₀ machine₀ memory₀ out₀ reader₀ machine₀ 0 0
+    started = record {
+      done = [];
+      short = accepts .short;
+      reached = omega arith;
+      onward = omega arith;
+      room = omega arith;
+      put = put-none out₀ 0;
+      held = refl;
+      same = refl;
+    }
+
+    module _ {memory out : List ℕ} {reader : Reader} {machine : Machine} {i at : ℕ}
+        (p : Progress piece memory₀ out₀ reader₀ machine₀ memory out reader machine i at)
+        (f : Found) (finding : Finding reader piece i f)
+      where
+        -- a record moves the offset
+        module _ (w : Record) (whole : f .event ≡ Whole w) where
+          pub moved : reader .offset + 4 ≤ f .reader .offset
+          moved =
+              rw (← finding .same) at
+              (found-far (readingOf reader) (drop i piece) w (ap (λ (s : Search). s .event) (sym (finding .same)) ∙ whole))
+
+          pub falls :
+              reader₀ .offset + reader₀ .length + length piece - f .reader .offset
+              < reader₀ .offset + reader₀ .length + length piece - reader .offset
+          falls = omega (arith, moved, finding .reached, p .reached)
+
+          pub fits : at + 54 ≤ length out
+          fits =
+              omega (arith, moved, finding .reached, p .reached, p .room, p .onward, accepts .roomy, accepts .short, put-length (p .put))
+
+          pub stepped :
+              {memory′ out′ : List ℕ} (a : Applied) → Applying machine w memory out at a memory′ out′ →
+              length memory′ ≡ length memory →
+              Progress piece memory₀ out₀ reader₀ machine₀ memory′ out′ (f .reader) (a .machine) (f .at) (a .at)
+          stepped a applying kept = record {
+            done = p .done ++ printed w (applied w (system machine memory));
+            short = finding .short;
+            reached = omega (arith, finding .reached, p .reached);
+            onward = omega (arith, moved, p .onward);
+            room = omega (arith, moved, p .room, p .onward, applying .room);
+            put = put-join (p .put) (applying .text);
+            held = kept ∙ p .held;
+            same =
+                rw (applying .left)
+                (after-more (p .done) (printed w (applied w (system machine memory))) (fed (stream (readingOf (f .reader)) (applied w (system machine memory) .state)) (drop (f .at) piece))
+                ∙ ap (after (p .done)) (feed-whole (readingOf reader) (readingOf (f .reader)) (system machine memory) (drop i piece) (drop (f .at) piece) w (rw whole at (finding .same)))
+                ∙ p .same);
+          }
+
+        pub ended :
+            f .event ≡ Nothing →
+            feedWith (Written at) (streamOf (f .reader) machine memory) (f .reader .length) out
+            ≡ acceptedFeed reader₀ machine₀ piece memory₀ out₀
+        unfolding acceptedFeed
+        ended none =
+            let whole : fedWith (p .done) (streamOf (f .reader) machine memory) ≡ fed (streamOf reader₀ machine₀ memory₀) piece =
+            sym (after-last (p .done) (streamOf (f .reader) machine memory))
+            ∙ ap (after (p .done)) (feed-none (readingOf reader) (readingOf (f .reader)) (system machine memory) (drop i piece) (drop (f .at) piece) (rw none at (finding .same)))
+            ∙ p .same in
+            let next = put-next (p .put) in
+            let inside : length (p .done) ≤ length out₀ = omega (arith, p .room, p .onward, p .reached, accepts .roomy, accepts .short) in
+            rw (← whole, next, put-over (p .put) inside, length-take-le (f .reader .length) (f .reader .kept) (omega (arith, finding .short, finding .sized)))

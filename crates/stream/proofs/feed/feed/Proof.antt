@@ -1,0 +1,32 @@
+use mathlib.Core.Path.{sym, _∙_}
+use Rattle.stream.specs.Feed.{feedOf}
+use borrow.Author.Needs.{needs}
+use Rattle.stream.proofs.feed.feed.Statement.{statement}
+use Rattle.stream.proofs.feed.feed.Tie as tie
+
+feed-acceptable-requires : tie.Need-feed-acceptable-requires
+feed-acceptable-requires c κs =
+    let t = c .before .before in
+    sym (t .before .is-acceptable .ensures) ∙ t .if1 .taken
+
+returns : tie.Need-returns
+unfolding feedOf
+returns c =
+    let f = c .before .before .before .before in
+    let t = f .before .before .before in
+    rw (sym (t .before .is-acceptable .ensures) ∙ t .if1 .taken) (f .feed-acceptable .ensures)
+
+returns-2 : tie.Need-returns-2
+unfolding feedOf
+returns-2 c = rw (sym (c .before .is-acceptable .ensures) ∙ c .if1 .left)
+
+pub feed-spec : {M : Type 1} → statement M
+feed-spec =
+    tie.close
+    (tie.spec
+    (λ c κs. search needs)
+    feed-acceptable-requires
+    (λ c. search needs)
+    (λ c. search needs)
+    returns
+    returns-2)

@@ -1,0 +1,76 @@
+-- The calls that take a piece of a stream and its end, and write text into bytes that are lent.
+use Prim.Native.Nat.{ℕ, _+_, _*_, _^_, _≤_}
+use mathlib.Core.Path.{_≡_}
+use mathlib.Core.Bool.{Bool, cond, _&&_}
+use mathlib.Core.List.{List, _++_}
+use lib.Dec.{leb, ltb}
+use lib.ListN.{length, drop}
+use Rattle.machine.specs.declared.Machine.{Machine}
+use Rattle.machine.specs.Run.{System, system}
+use Rattle.records.specs.declared.reader.Reader.{Reader}
+use Rattle.records.specs.declared.record.Record.{Record}
+use Rattle.records.specs.Reader.{readingOf}
+use Rattle.text.specs.Put.{Put}
+use Rattle.stream.specs.declared.feed.Text.{Text}
+use Rattle.stream.specs.declared.feed.Text.the-variants.{Written, NoRoom}
+use Rattle.stream.specs.declared.feed.Fed as declared
+use Rattle.stream.specs.declared.feed.Applied.{Applied}
+use Rattle.stream.specs.Apply.{applied, printed}
+use Rattle.stream.specs.Stream.{Stream, stream, fed, lastText}
+
+-- A piece is accepted from a reader that holds an unfinished record and has counted less than 2 ^ 64 bytes with the piece, and
+-- into room for all that the piece may print: every record has at least 4 bytes and prints at most 54.
+unfoldable pub acceptable : Reader → ℕ → ℕ → Bool
+acceptable r bytes room =
+    leb (r .length) 10 && ltb (r .offset + r .length + bytes) (2 ^ 64) && leb (14 * (bytes + 10)) room
+
+-- a text put over the first bytes of others
+abbrev pub over : List ℕ → List ℕ → List ℕ
+over text out = text ++ drop (length text) out
+
+-- What a call answers and leaves: the stream, how many bytes of it are pending, and the bytes that were lent for the text.
+pub record Feed : Type 0 where
+  pub text : Text
+  pub stream : Stream
+  pub pending : ℕ
+  pub out : List ℕ
+
+abbrev pub feedWith : Text → Stream → ℕ → List ℕ → Feed
+feedWith text stream pending out = record { text = text; stream = stream; pending = pending; out = out }
+
+abbrev pub streamOf : Reader → Machine → List ℕ → Stream
+streamOf r m memory = stream (readingOf r) (system m memory)
+
+abbrev pub feedResult : declared.Fed → List ℕ → List ℕ → Feed
+feedResult f memory out = feedWith (f .text) (streamOf (f .reader) (f .machine) memory) (f .reader .length) out
+
+unfoldable pub acceptedFeed : Reader → Machine → List ℕ → List ℕ → List ℕ → Feed
+acceptedFeed r m piece memory out =
+    let f = fed (streamOf r m memory) piece in
+    feedWith (Written (length (f .text))) (f .stream) (length (f .stream .reading .pending)) (over (f .text) out)
+
+-- a refusal changes nothing
+unfoldable pub feedOf : Reader → Machine → List ℕ → List ℕ → List ℕ → Feed
+feedOf r m piece memory out =
+    cond (acceptable r (length piece) (length out))
+    (acceptedFeed r m piece memory out)
+    (feedWith NoRoom (streamOf r m memory) (r .length) out)
+
+-- a record applied and printed
+pub record Applying (m : Machine) (r : Record) (memory out : List ℕ) (at : ℕ) (a : Applied) (memory′ out′ : List ℕ) : Type 0 where
+  pub left : system (a .machine) memory′ ≡ applied r (system m memory) .state
+  pub text : Put out at (printed r (applied r (system m memory))) out′ (a .at)
+  pub room : a .at ≤ at + 54
+
+-- the text of the end: at most 35 bytes for a bad record and 26 for each register
+pub record Finish : Type 0 where
+  pub text : Text
+  pub out : List ℕ
+
+abbrev pub finishResult : Text → List ℕ → Finish
+finishResult text out = record { text = text; out = out }
+
+unfoldable pub finishOf : Reader → Machine → List ℕ → Finish
+finishOf r m out =
+    let text = lastText (readingOf r) (m .registers) in
+    cond (leb 3363 (length out)) (finishResult (Written (length text)) (over text out)) (finishResult NoRoom out)

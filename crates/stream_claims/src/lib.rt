@@ -1,0 +1,1 @@
+// Theorems about the definition of a stream's output: claims in specs/, proofs in proofs/.

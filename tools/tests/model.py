@@ -1,0 +1,268 @@
+"""The loop handler and the runner as the requirements have them, in plain Python, for tests to compare with."""
+M64 = 2**64 - 1
+
+
+def sext(value, bits):
+    value &= 2**bits - 1
+    return (value - 2**bits if value >> bits - 1 else value) & M64
+
+
+def signed(value):
+    return value - 2**64 if value >> 63 else value
+
+
+def word_result(value):
+    return sext(value, 32)
+
+
+OPERATIONS = {
+    "add": lambda a, b: a + b, "sub": lambda a, b: a - b, "sll": lambda a, b: a << (b & 63),
+    "slt": lambda a, b: int(signed(a) < signed(b)), "sltu": lambda a, b: int(a < b), "xor": lambda a, b: a ^ b,
+    "srl": lambda a, b: a >> (b & 63), "sra": lambda a, b: signed(a) >> (b & 63), "or": lambda a, b: a | b,
+    "and": lambda a, b: a & b, "addw": lambda a, b: word_result(a + b), "subw": lambda a, b: word_result(a - b),
+    "sllw": lambda a, b: word_result(a << (b & 31)), "srlw": lambda a, b: word_result((a & 0xFFFFFFFF) >> (b & 31)),
+    "sraw": lambda a, b: word_result(signed(sext(a, 32)) >> (b & 31)),
+}
+BY_FUNCT3 = ["add", "sll", "slt", "sltu", "xor", "srl", "or", "and"]
+W_FORMS = {"add", "sll", "srl"}
+
+
+def operation_of(word):
+    """Name, and the immediate or None; None for a word that is no operation."""
+    opcode, funct3, funct7 = word & 127, word >> 12 & 7, word >> 25
+    name, wide = BY_FUNCT3[funct3], opcode in (0x1B, 0x3B)
+    if wide and name not in W_FORMS:
+        return None
+    other = {"add": "sub", "srl": "sra"}.get(name)
+    suffix = "w" if wide else ""
+    if opcode in (0x33, 0x3B):
+        if funct7 == 0:
+            return name + suffix, None
+        return (other + suffix, None) if funct7 == 32 and other else None
+    if name in ("sll", "srl"):
+        top, amount = (funct7, word >> 20 & 31) if wide else (word >> 26, word >> 20 & 63)
+        if top == 0:
+            return name + suffix, amount
+        return (other + suffix, amount) if other == "sra" and top == (32 if wide else 16) else None
+    return name + suffix, sext(word >> 20, 12)
+
+
+class Machine:
+    def __init__(self, size=4096):
+        self.x = [0] * 128
+        self.pc = 0
+        self.mvl = self.vl = 1
+        self.cfg = 24
+        self.source = self.destination = 0
+        self.registers, self.predicates = [0] * 16, [0] * 16
+        self.memory = bytearray(size)
+
+    # settings; each gives its answer
+    def set_entry(self, table, index, value):
+        if index > 15:
+            return 8
+        if table is self.predicates and value & 1:
+            return 7
+        table[index] = value
+        return 0
+
+    def set_register(self, index, value):
+        if index > 127:
+            return 8
+        if index:
+            self.x[index] = value
+        return 0
+
+    def set_state(self, word):
+        mvl = (word & 63) + 1
+        vl = min((word >> 6 & 63) + 1, mvl)
+        source, destination = word >> 12 & 63, word >> 18 & 63
+        if word >> 29 or source >= vl or destination >= vl:
+            return 7
+        self.mvl, self.vl, self.source, self.destination, self.cfg = mvl, vl, source, destination, word >> 24
+        return 0
+
+    # what an instruction's register number names
+    def enabled(self):
+        bank, size = self.cfg & 7, self.cfg >> 3
+        return range(0) if self.cfg == 31 else range(2 * bank, min(16, 2 * bank + 2 ** (size + 1)))
+
+    def named(self, key):
+        """Real register, vector, width."""
+        for i in reversed(self.enabled()):
+            entry = self.registers[i]
+            if entry >> 7 & 1 and entry & 31 == key:
+                return entry >> 8 & 127, entry >> 15, entry >> 5 & 3
+        return key, 0, 0
+
+    def mask(self, key):
+        """A function of positions, and zeroing."""
+        for i in reversed(self.enabled()):
+            entry = self.predicates[i]
+            if entry >> 8 & 1 and entry >> 11 == key:
+                value, invert = self.x[entry >> 1 & 127], entry >> 9 & 1
+                return (lambda p: value >> p & 1 != invert), entry >> 10 & 1
+        return (lambda p: True), 0
+
+    def put(self, index, value):
+        if index:
+            self.x[index] = value & M64
+
+    def run(self, word, allowance):
+        """Answer and address."""
+        if word & 3 != 3:
+            if word >> 12 & 15 == 8 and word & 3 == 2 and word >> 2 & 31:
+                return self.serve([word >> 7 & 31, word >> 2 & 31], allowance, self.move, word)
+            return 2, 0
+        opcode = word & 127
+        rd, rs1, rs2, funct3 = word >> 7 & 31, word >> 15 & 31, word >> 20 & 31, word >> 12 & 7
+        if opcode in (0x13, 0x1B, 0x33, 0x3B):
+            found = operation_of(word)
+            if found is None:
+                return 2, 0
+            return self.serve([rd, rs1] + ([rs2] if found[1] is None else []), allowance, self.operation, found)
+        if opcode == 0x03 and funct3 < 7:
+            return self.serve([rd, rs1], allowance, self.load, word)
+        if opcode == 0x23 and funct3 < 4:
+            return self.serve([rs2, rs1], allowance, self.store, word)
+        return 2, 0
+
+    def serve(self, keys, allowance, kind, detail):
+        names = [self.named(key) for key in keys]
+        if any(width for _, _, width in names):
+            return 4, 0
+        if any(vector and real + self.vl - 1 > 127 for real, vector, _ in names):
+            return 3, 0
+        return kind(keys, names, allowance, detail)
+
+    def ended(self, size):
+        self.source = self.destination = 0
+        self.pc = self.pc + size & M64
+        return 0, 0
+
+    def operation(self, keys, names, allowance, found):
+        name, immediate = found
+        on, zeroing = self.mask(keys[0])
+
+        def at(operand, i):
+            return operand[0] + i if operand[1] else operand[0]
+        while allowance:
+            i = self.destination
+            if on(i):
+                a = self.x[at(names[1], i)]
+                b = self.x[at(names[2], i)] if immediate is None else immediate
+                self.put(at(names[0], i), OPERATIONS[name](a, b))
+                if not names[0][1]:
+                    return self.ended(4)
+            elif zeroing:
+                self.put(at(names[0], i), 0)
+            if i + 1 == self.vl:
+                return self.ended(4)
+            self.source = self.destination = i + 1
+            allowance -= 1
+        return 1, 0
+
+    def pairs(self, allowance, sides, single, size, element):
+        """sides: for source and destination whether it walks, and its mask; element gives a fault's address or None."""
+        while allowance:
+            places = []
+            for (walks, on), offset in zip(sides, (self.source, self.destination)):
+                p = offset if walks else 0
+                while walks and p < self.vl and not on(p):
+                    p += 1
+                places.append(p)
+            if any(walks and p == self.vl for (walks, _), p in zip(sides, places)):
+                return self.ended(size)
+            address = element(*places)
+            if address is not None:
+                self.source, self.destination = places
+                return 5, address
+            after = [p + 1 if walks else 0 for (walks, _), p in zip(sides, places)]
+            if single or any(walks and p == self.vl for (walks, _), p in zip(sides, after)):
+                return self.ended(size)
+            self.source, self.destination = after
+            allowance -= 1
+        return 1, 0
+
+    def move(self, keys, names, allowance, word):
+        (to, to_vector, _), (real, vector, _) = names
+        # masks are read once, before any element
+        sides = [(vector, self.mask(keys[1])[0]), (to_vector, self.mask(keys[0])[0])]
+
+        def element(i, j):
+            self.put(to + j if to_vector else to, self.x[real + i if vector else real])
+        return self.pairs(allowance, sides, not to_vector, 2, element)
+
+    def address(self, operand, offset, i, size):
+        real, vector, _ = operand
+        return (self.x[real + i] + offset if vector else self.x[real] + offset + i * size) & M64
+
+    def load(self, keys, names, allowance, word):
+        funct3 = word >> 12 & 7
+        size, offset = 2 ** (funct3 & 3), sext(word >> 20, 12)
+        to, to_vector, _ = names[0]
+        sides = [(1, self.mask(keys[1])[0]), (to_vector, self.mask(keys[0])[0])]
+
+        def element(i, j):
+            address = self.address(names[1], offset, i, size)
+            if address + size > len(self.memory):
+                return address
+            value = int.from_bytes(self.memory[address:address + size], "little")
+            self.put(to + j if to_vector else to, value if funct3 & 4 else sext(value, 8 * size))
+            return None
+        return self.pairs(allowance, sides, not to_vector, 4, element)
+
+    def store(self, keys, names, allowance, word):
+        size = 2 ** (word >> 12 & 3)
+        offset = sext(word >> 25 << 5 | word >> 7 & 31, 12)
+        real, vector, _ = names[0]
+        sides = [(vector, self.mask(keys[0])[0]), (1, self.mask(keys[1])[0])]
+
+        def element(i, j):
+            address = self.address(names[1], offset, j, size)
+            if address + size > len(self.memory):
+                return address
+            value = self.x[real + i if vector else real] & 2 ** (8 * size) - 1
+            self.memory[address:address + size] = value.to_bytes(size, "little")
+            return None
+        return self.pairs(allowance, sides, not vector and not names[1][1], 4, element)
+
+
+BODY = {1: 3, 2: 3, 3: 4, 4: 9, 5: 6, 6: 10}
+
+
+def apply(machine, kind, body):
+    """The line that a record prints, or None."""
+    def part(low, high):
+        return int.from_bytes(body[low:high], "little")
+    if kind == 5:
+        answer, _ = machine.run(part(0, 4), part(4, 6))
+        return f"{answer} {machine.pc} {machine.source} {machine.destination}"
+    if kind == 6:
+        address = part(0, 2)
+        answer = 5 if address + 8 > len(machine.memory) else 0
+        if not answer:
+            machine.memory[address:address + 8] = body[2:10]
+    elif kind == 4:
+        answer = machine.set_register(body[0], part(1, 9))
+    elif kind == 3:
+        answer = machine.set_state(part(0, 4))
+    else:
+        answer = machine.set_entry(machine.registers if kind == 1 else machine.predicates, body[0], part(1, 3))
+    return f"refused {answer}" if answer else None
+
+
+def output(data):
+    """What the runner prints for a stream."""
+    machine, lines, at = Machine(), [], 0
+    while at < len(data):
+        kind = data[at]
+        if kind not in BODY or len(data) - at - 1 < BODY[kind]:
+            lines.append(f"bad record at {at}")
+            break
+        line = apply(machine, kind, data[at + 1:at + 1 + BODY[kind]])
+        if line is not None:
+            lines.append(line)
+        at += 1 + BODY[kind]
+    lines += [f"x{i} {value}" for i, value in enumerate(machine.x) if value]
+    return "".join(line + "\n" for line in lines)
