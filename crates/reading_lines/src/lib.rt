@@ -1,0 +1,13 @@
+// The lines of a file of readings: a call by its name, its arguments, and what it must answer.
+
+// The words of a line, and a word as a number.
+mod words;
+
+// The calls, and the numbers that each takes.
+pub mod call;
+
+// A line as a whole.
+pub mod line;
+
+// The lines counted, and what is printed of them.
+pub mod tally;
