@@ -4,7 +4,6 @@ pub mod Shape
 pub mod StateWord
 pub mod Pasted
 pub mod Copy
-pub mod Readings
 pub mod RegistersKept
 pub mod Units
 pub mod Preparing
@@ -15,6 +14,5 @@ pub mod Advance
 pub mod Bound
 pub mod Faults
 pub mod Run
-pub mod WhyThePremise
 pub mod Masks
 pub mod PastRegisters

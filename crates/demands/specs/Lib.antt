@@ -3,10 +3,8 @@ pub mod Reading
 pub mod Shape
 pub mod StateWord
 pub mod Copy
-pub mod Readings
 pub mod Premise
 pub mod Cuts
 pub mod Run
-pub mod WhyThePremise
 pub mod Masks
 pub mod PastRegisters

@@ -1,2 +1,4 @@
 pub mod Example
 pub mod Pieces
+pub mod Prefix
+pub mod ByRecord

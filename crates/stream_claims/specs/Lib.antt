@@ -1,2 +1,3 @@
 pub mod Example
 pub mod Pieces
+pub mod ByRecord

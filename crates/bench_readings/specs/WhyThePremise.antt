@@ -7,9 +7,9 @@ use Rattle.pausable.specs.Outcome.{outcome}
 use Rattle.pausable.specs.Call.{Further, total}
 use Rattle.machine.specs.declared.Machine.{Machine}
 use Rattle.machine.specs.Run.{system, run}
 use Rattle.demands.specs.Premise.{Apart}
 use Rattle.demands.specs.Cuts.{Between, nothing, runs}
-use Rattle.demands.specs.Readings.{add, most, base, holding, masked, positioned, Runs}
+use Rattle.bench_readings.specs.Readings.{add, most, base, holding, masked, positioned, Runs}
 
 -- B with x7 = 1 and mask register 41 holding 15; entry 2952 is key 5, mask register 41
 unfoldable pub maskWritten : Machine

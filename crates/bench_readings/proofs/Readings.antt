@@ -32,7 +32,7 @@ use Rattle.machine.specs.Shape.{inShape, roomInShape, tablesInShape}
 use Rattle.machine.specs.Setting.{setStateWord, setRegisterEntry, setRegister}
 use Rattle.machine.specs.Reading.{told}
 use Rattle.machine.specs.Run.{prepare, unit, run}
-use Rattle.demands.specs.Readings.{
+use Rattle.bench_readings.specs.Readings.{
   Readings,
   putFrom,
   base,

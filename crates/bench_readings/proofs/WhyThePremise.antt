@@ -26,8 +26,8 @@ use Rattle.plans.specs.Plan.{operationPlan}
 use Rattle.handler.specs.Prepare.{served, prepared}
 use Rattle.machine.specs.Shape.{inShape, roomInShape, tablesInShape}
 use Rattle.machine.specs.Run.{System, prepare, unit, run}
-use Rattle.demands.specs.Readings.{putFrom, base, holding, masked, positioned}
-use Rattle.demands.specs.WhyThePremise.{WhyThePremise, maskWritten}
+use Rattle.bench_readings.specs.Readings.{putFrom, base, holding, masked, positioned}
+use Rattle.bench_readings.specs.WhyThePremise.{WhyThePremise, maskWritten}
 
 register42 : Outcome Answer System → ℕ
 register42 o = getD (o .state .machine .registers) 42 0
