@@ -1,28 +1,26 @@
 -- What holds of every unit, whatever it answers: the registers that it leaves, its offsets and its answers.
-use Prim.Native.Nat.{ℕ, _+_, _-_, _<_, _≤_}
+use Prim.Native.Nat.{ℕ, _+_, _<_}
 use mathlib.Core.Path.{_≡_, refl}
-use mathlib.Core.Bool.{Bool, true, false, cond, _||_, true≢false}
+use mathlib.Core.Bool.{Bool, true, false, _||_, true≢false}
 use mathlib.Core.List.{List}
 use native.Mathlib.Omega.{arith}
-use borrow.Author.Tests.{ltb-true, leb-false}
+use borrow.Author.Tests.{ltb-true}
 use lib.Dec.{ltb}
 use Rattle.answers.specs.declared.Answer.{Answer}
 use Rattle.answers.specs.declared.Answer.the-variants.{Done, Paused, UnknownWord, PastRegisters, BadWidth, Fault, OutOfShape, BadValue, NoSuchPlace}
-use Rattle.operands.specs.declared.place.Place.{Place}
 use Rattle.operands.specs.Place.{registerAt}
 use Rattle.operands.specs.Mask.{isOn}
-use Rattle.pairs.specs.declared.Side.{Side}
 use Rattle.pairs.specs.declared.Pair.{Pair}
 use Rattle.pairs.specs.declared.Pair.the-variants.{Found, End}
-use Rattle.pairs.specs.Side.{start, next, past}
-use Rattle.pairs.proofs.Laws.{pair-in}
+use Rattle.pairs.specs.Side.{next, past}
+use Rattle.pairs.proofs.Laws.{pair-in, start-in, next-in}
 use Rattle.pausable.specs.Outcome.{Outcome}
 use Rattle.walk.specs.declared.position.Position.{Position}
 use Rattle.walk.specs.declared.position.Ran.{Ran}
 use Rattle.walk.specs.declared.operation.OperationPlan.{OperationPlan}
 use Rattle.transfers.specs.declared.sides.Sides.{Sides}
 use Rattle.walk.specs.Context.{Context, left, ended, onward}
-use Rattle.walk.specs.Operation.{putAt, elementOf, goOn, afterOn, positionDone, operationUnit}
+use Rattle.walk.specs.Operation.{elementOf, goOn, afterOn, positionDone, operationUnit}
 use Rattle.transfers.specs.Transfer.{faulted, Transferred, moved, outside, pairOf, afterPair, settled, atPair, transferUnit}
 use Rattle.transfers.specs.SidesReady.{Within}
 use Rattle.demands.proofs.RegistersKept.{RegistersKept, unwritten, one-written, by-test}
@@ -96,17 +94,6 @@ operation-sound p Writes c h writes =
     (by-test (RegistersKept Writes (c .registers)) (p .mask .zeroing)
     (λ f. one-written (c .registers) (registerAt (p .destination) i) 0 (writes i h)) (λ f. unwritten (c .registers)))
     (c .memory))
-
-start-in : (s : Side) (vl i : ℕ) → i < vl → start s i < vl
-unfolding start
-start-in s vl i h = by-test (λ x. x < vl) (s .walks) (λ e. h) (λ e. omega arith)
-
-next-in : (s : Side) (vl i : ℕ) → 0 < vl → past s vl (next s i) ≡ false → next s i < vl
-next-in s vl i h = by (s .walks) refl
-  where
-    by : (t : Bool) → s .walks ≡ t → past s vl (next s i) ≡ false → next s i < vl
-    by true e = unfold past next in rw e (λ f. leb-false vl (i + 1) f)
-    by false e = unfold past next in rw e (λ f. h)
 
 pub or-false : (a b : Bool) → (a || b) ≡ false → (a ≡ false) × (b ≡ false)
 or-false true b e = absurd (true≢false e)
