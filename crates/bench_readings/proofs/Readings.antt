@@ -24,7 +24,7 @@ use Rattle.pausable.specs.Call.{begun}
 use Rattle.walk.specs.Operation.{elementOf, goOn, afterOn, positionDone, operationUnit}
 use Rattle.transfers.specs.Transfer.{pairOf, afterPair, settled, atPair, transferUnit}
 use Rattle.transfers.specs.Moving.{moveElement, moveUnit}
-use Rattle.transfers.specs.Loading.{addressAt, loadElement, loadUnit}
+use Rattle.accesses.specs.Loading.{addressAt, fetched, loadElement, loadUnit}
 use Rattle.plans.specs.Operands.{every, narrow, fitting}
 use Rattle.plans.specs.Plan.{operationPlan, movePlan, loadPlan}
 use Rattle.handler.specs.Prepare.{served, prepared}
@@ -53,7 +53,7 @@ use Rattle.bench_readings.specs.Readings.{
 }
 
 pub readings : Readings
-unfolding accepts pauses verdict written computed signExtended enabledRange clearBelow answers candidate highest held stateInShape fields wordOf goodWord inside located number loaded funct3Rows funct6Rows funct7Rows firstForm lookUp named decoded decodedAs compressedMove registerAt fits onBits maskBy isOn start next past firstOn skipped pairFrom walk begun elementOf goOn afterOn positionDone operationUnit pairOf afterPair settled atPair transferUnit moveElement moveUnit addressAt loadElement loadUnit every narrow fitting operationPlan movePlan loadPlan served prepared inShape roomInShape tablesInShape setStateWord setRegisterEntry setRegister told prepare unit run putFrom base settings holding tagged masked withLengths positioned nines scalarDestination sourceMask destinationMask loading countingFrom full sums
+unfolding accepts pauses verdict written computed signExtended enabledRange clearBelow answers candidate highest held stateInShape fields wordOf goodWord inside located number loaded funct3Rows funct6Rows funct7Rows firstForm lookUp named decoded decodedAs compressedMove registerAt fits onBits maskBy isOn start next past firstOn skipped pairFrom walk begun elementOf goOn afterOn positionDone operationUnit pairOf afterPair settled atPair transferUnit moveElement moveUnit addressAt fetched loadElement loadUnit every narrow fitting operationPlan movePlan loadPlan served prepared inShape roomInShape tablesInShape setStateWord setRegisterEntry setRegister told prepare unit run putFrom base settings holding tagged masked withLengths positioned nines scalarDestination sourceMask destinationMask loading countingFrom full sums
 readings = record {
   base-set = refl;
   p1 = λ memory. refl;

@@ -18,8 +18,8 @@ use Rattle.transfers.specs.declared.sides.Sides.{Sides}
 use Rattle.walk.specs.Context.{Context, pausing}
 use Rattle.transfers.specs.SidesReady.{Within}
 use Rattle.transfers.specs.Moving.{moveUnit, moveElement}
-use Rattle.transfers.specs.Loading.{loadUnit, loadElement}
-use Rattle.transfers.specs.Storing.{storeUnit, storeElement}
+use Rattle.accesses.specs.Loading.{loadUnit, loadElement}
+use Rattle.accesses.specs.Storing.{storeUnit, storeElement}
 use Rattle.plans.specs.Plan.{operationPlan, movePlan, loadPlan, storePlan}
 use Rattle.handler.specs.Prepare.{Plan, operation, move, load, store, prepared}
 use Rattle.handler.specs.Unit.{unitOf}

@@ -18,8 +18,8 @@ use Rattle.transfers.specs.declared.sides.Sides.{Sides}
 use Rattle.walk.specs.Context.{Context, context, standing}
 use Rattle.walk.specs.Operation.{goOn, afterOn, positionDone, operationUnit}
 use Rattle.transfers.specs.Moving.{moveUnit, moveElement}
-use Rattle.transfers.specs.Loading.{loadUnit, loadElement}
-use Rattle.transfers.specs.Storing.{storeUnit, storeElement}
+use Rattle.accesses.specs.Loading.{loadUnit, loadElement}
+use Rattle.accesses.specs.Storing.{storeUnit, storeElement}
 use Rattle.transfers.specs.Transfer.{Transferred, moved, outside, pairOf, afterPair, settled, atPair, transferUnit}
 use Rattle.handler.specs.Prepare.{Plan, operation, move, load, store}
 use Rattle.handler.specs.Unit.{unitOf}

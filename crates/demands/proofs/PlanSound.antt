@@ -11,18 +11,18 @@ use Rattle.memory.specs.declared.load.Loaded.{Loaded}
 use Rattle.memory.specs.declared.load.Loaded.the-variants as loads
 use Rattle.memory.specs.declared.store.Stored.{Stored}
 use Rattle.memory.specs.declared.store.Stored.the-variants as stores
-use Rattle.memory.specs.Transfer.{loaded, storeAnswer}
+use Rattle.memory.specs.Transfer.{storeAnswer}
 use Rattle.scalar.specs.Width.{bytesOf}
 use Rattle.operands.specs.Place.{registerAt}
 use Rattle.pausable.specs.Call.{ready}
-use Rattle.transfers.specs.declared.loading.LoadPlan.{LoadPlan}
-use Rattle.transfers.specs.declared.storing.StorePlan.{StorePlan}
+use Rattle.accesses.specs.declared.loading.LoadPlan.{LoadPlan}
+use Rattle.accesses.specs.declared.storing.StorePlan.{StorePlan}
 use Rattle.transfers.specs.declared.sides.Sides.{Sides}
 use Rattle.walk.specs.Context.{Context}
 use Rattle.transfers.specs.SidesReady.{Within}
 use Rattle.transfers.specs.Moving.{moveElement, moveUnit}
-use Rattle.transfers.specs.Loading.{addressAt, loadElement, loadUnit, loadedTo}
-use Rattle.transfers.specs.Storing.{storeElement, storeUnit, storedTo}
+use Rattle.accesses.specs.Loading.{addressAt, fetched, loadElement, loadUnit, loadedTo}
+use Rattle.accesses.specs.Storing.{storeElement, storeUnit, storedTo}
 use Rattle.plans.specs.Plan.{operationPlan, movePlan, loadPlan, storePlan}
 use Rattle.handler.specs.Prepare.{Plan, operation, move, load, store, prepared}
 use Rattle.handler.specs.Unit.{unitOf}
@@ -44,7 +44,7 @@ module _ (Writes : ℕ → Type 0) (c : Context) where
   unfolding loadElement
   load-kept p i j w =
       let address = addressAt (p .sides .source .place) (p .offset) (p .width) (c .registers) i in
-      by address (loaded (c .memory) address (bytesOf (p .width)))
+      by address (fetched (c .memory) address (p .width) (p .signed))
     where
       by : (address : ℕ) (l : Loaded) → TransferKept Writes (c .registers) (loadedTo p c address j l)
       by address (loads.Value value) = one-written (c .registers) (registerAt (p .sides .destination .place) j) _ w

@@ -9,8 +9,8 @@ use Rattle.decode.specs.declared.decoded.Decoded.the-variants.{Operation, Move,
 use Rattle.pausable.specs.Call.{Prepared, refused, ready}
 use Rattle.walk.specs.declared.operation.OperationPlan.{OperationPlan}
 use Rattle.transfers.specs.declared.sides.Sides.{Sides}
-use Rattle.transfers.specs.declared.loading.LoadPlan.{LoadPlan}
-use Rattle.transfers.specs.declared.storing.StorePlan.{StorePlan}
+use Rattle.accesses.specs.declared.loading.LoadPlan.{LoadPlan}
+use Rattle.accesses.specs.declared.storing.StorePlan.{StorePlan}
 use Rattle.plans.specs.Operands.{operandsOf, every, narrow, fitting}
 use Rattle.plans.specs.Plan.{operationPlan, movePlan, loadPlan, storePlan}
 

@@ -7,8 +7,8 @@ use Rattle.pausable.specs.Call.{begun}
 use Rattle.walk.specs.Context.{Context, pausing}
 use Rattle.walk.specs.Operation.{operationUnit}
 use Rattle.transfers.specs.Moving.{moveUnit}
-use Rattle.transfers.specs.Loading.{loadUnit}
-use Rattle.transfers.specs.Storing.{storeUnit}
+use Rattle.accesses.specs.Loading.{loadUnit}
+use Rattle.accesses.specs.Storing.{storeUnit}
 use Rattle.handler.specs.Prepare.{Plan, operation, move, load, store, prepared}
 
 abbrev pub unitOf : Plan → Context → Outcome Answer Context

@@ -47,29 +47,29 @@ impl Side {
 
 // The next position that is on, on both sides.
 pub fn find_pair(source: Side, destination: Side, vl: u32, i0: u32, j0: u32) -> Pair
-    requires { ⌜ (vl ≤ 64) × (i0 ≤ vl) × (j0 ≤ vl) ⌝ }
+    requires { ⌜ (vl ≤ 64) × (i0 < vl) × (j0 < vl) ⌝ }
     ensures { λ r. ⌜ r ≡ pairFrom source destination vl i0 j0 ⌝ }
 {
     let mut i = i0;
     let mut j = j0;
     'pair: loop {
         while source.walks {
-            if i >= vl {
-                break 'pair Pair::End;
-            }
             if source.mask.is_on(i) {
                 break;
             }
             i += 1;
-        }
-        while destination.walks {
-            if j >= vl {
+            if i >= vl {
                 break 'pair Pair::End;
             }
+        }
+        while destination.walks {
             if destination.mask.is_on(j) {
                 break;
             }
             j += 1;
+            if j >= vl {
+                break 'pair Pair::End;
+            }
         }
         break Pair::Found(i, j);
     }

@@ -16,8 +16,8 @@ use Rattle.walk.specs.declared.operation.Second.{Second}
 use Rattle.walk.specs.declared.operation.Second.the-variants.{Register, Immediate}
 use Rattle.walk.specs.declared.operation.OperationPlan.{OperationPlan}
 use Rattle.transfers.specs.declared.sides.Sides.{Sides}
-use Rattle.transfers.specs.declared.loading.LoadPlan.{LoadPlan}
-use Rattle.transfers.specs.declared.storing.StorePlan.{StorePlan}
+use Rattle.accesses.specs.declared.loading.LoadPlan.{LoadPlan}
+use Rattle.accesses.specs.declared.storing.StorePlan.{StorePlan}
 
 abbrev pub isVector : Named → Bool
 isVector n = placeOf (n .operand) .vector

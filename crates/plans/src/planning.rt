@@ -2,6 +2,8 @@
 ghost use mathlib.Core.Path.{_≡_};
 ghost use Rattle.plans.specs.Plan.{isVector, secondPlan, operationPlan, side, movePlan, loadPlan, storePlan};
 ghost use mathlib.Core.Bool.{_||_};
+use accesses::loading::LoadPlan;
+use accesses::storing::StorePlan;
 use decode::decoded as word;
 use decode::decoded::LoadWord;
 use decode::decoded::MoveWord;
@@ -11,9 +13,7 @@ use decode::decoded::StoreWord;
 use operands::mask::mask_by;
 use operands::place::place_of;
 use pairs::Side;
-use transfers::loading::LoadPlan;
 use transfers::sides::Sides;
-use transfers::storing::StorePlan;
 use walk::operation::OperationPlan;
 use walk::operation::Second;
 

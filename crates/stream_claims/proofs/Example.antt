@@ -24,7 +24,7 @@ use Rattle.pausable.specs.Call.{begun}
 use Rattle.walk.specs.Operation.{elementOf, goOn, afterOn, positionDone, operationUnit}
 use Rattle.transfers.specs.Transfer.{pairOf, afterPair, settled, atPair, transferUnit}
 use Rattle.transfers.specs.Moving.{moveElement, moveUnit}
-use Rattle.transfers.specs.Loading.{addressAt, loadElement, loadUnit}
+use Rattle.accesses.specs.Loading.{addressAt, loadElement, loadUnit}
 use Rattle.plans.specs.Operands.{every, narrow, fitting}
 use Rattle.plans.specs.Plan.{operationPlan, movePlan, loadPlan}
 use Rattle.handler.specs.Prepare.{served, prepared}

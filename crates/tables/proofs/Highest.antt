@@ -1,7 +1,7 @@
 -- The search from the highest index down.
-use Prim.Native.Nat.{ℕ, zero, suc, _-_, _≤_, _<_}
-use mathlib.Core.Path.{_≡_, refl, _∙_, ap}
-use mathlib.Core.Bool.{Bool, true, false, and-false}
+use Prim.Native.Nat.{ℕ, zero, suc, _+_, _-_, _≤_, _<_}
+use mathlib.Core.Path.{_≡_, refl, sym, _∙_, ap}
+use mathlib.Core.Bool.{Bool, true, false, not, _&&_, and-false}
 use mathlib.Core.List.{List}
 use lib.Dec.{ltb}
 use lib.ListN.{getD}
@@ -10,7 +10,8 @@ use borrow.Author.Tests.{lt-ltb, le-ltb, le-leb, lt-leb, ltb-true, ltb-false}
 use Rattle.tables.specs.declared.search.Table.{Table}
 use Rattle.tables.specs.declared.search.Held.the-variants.{At, Nothing}
 use Rattle.tables.specs.Enabled.{enabledRange}
-use Rattle.tables.specs.Search.{answers, candidate, highest, held}
+use Rattle.tables.specs.Search.{answers, candidate, highest, held, NoneAnswers}
+use Rattle.tables.proofs.Booleans.{and-left, and-right, not-true}
 use Rattle.tables.proofs.Ranges.{end-low}
 
 module _ (test : ℕ → Bool) where
@@ -30,14 +31,35 @@ module _ (test : ℕ → Bool) where
   highest-none (suc n) none = rw (none n (omega arith)) (highest-none n (λ k h. none k (omega arith)))
 
   -- indices from `low` on that all fail the test make no difference
-  highest-skip : (low n : ℕ) → low ≤ n → ((k : ℕ) → low ≤ k → test k ≡ false) → highest test n ≡ highest test low
+  highest-skip : (low n : ℕ) → low ≤ n → ((k : ℕ) → low ≤ k → k < n → test k ≡ false) → highest test n ≡ highest test low
   unfolding highest
   highest-skip low zero h none = let z : low ≡ 0 = omega arith in rw z
-  highest-skip low (suc n) h none = by (ltb n low) refl (λ l. highest-skip low n l none)
+  highest-skip low (suc n) h none = by (ltb n low) refl (λ l. highest-skip low n l (λ k m b. none k m (omega arith)))
     where
       by : (t : Bool) → ltb n low ≡ t → (low ≤ n → highest test n ≡ highest test low) → highest test (suc n) ≡ highest test low
       by true e next = let z : suc n ≡ low = omega (arith, ltb-true n low e) in ap (highest test) z
-      by false e next = let l = ltb-false n low e in rw (none n l) (next l)
+      by false e next = let l = ltb-false n low e in rw (none n l (omega arith)) (next l)
+
+-- one entry more that doesn't answer
+pub none-more : (table : Table) (entries : List ℕ) (key first n : ℕ) (none answer : Bool) →
+    answer ≡ answers table key (getD entries (first + n) 0) →
+    (none ≡ true → NoneAnswers table entries key first (first + n)) →
+    none && not answer ≡ true → NoneAnswers table entries key first (first + (n + 1))
+none-more table entries key first n none answer said before h k l b = by (ltb k (first + n)) refl
+  where
+    by : (t : Bool) → ltb k (first + n) ≡ t → answers table key (getD entries k 0) ≡ false
+    by true e = before (and-left _ _ h) k l (ltb-true k (first + n) e)
+    by false e =
+        let last : k ≡ first + n = omega (arith, ltb-false k (first + n) e) in
+        rw last (sym said ∙ not-true answer (and-right none _ h))
+
+pub none-joined : (table : Table) (entries : List ℕ) (key first middle end : ℕ) →
+    NoneAnswers table entries key first middle → NoneAnswers table entries key middle end → NoneAnswers table entries key first end
+none-joined table entries key first middle end lower upper k l b = by (ltb k middle) refl
+  where
+    by : (t : Bool) → ltb k middle ≡ t → answers table key (getD entries k 0) ≡ false
+    by true e = lower k l (ltb-true k middle e)
+    by false e = upper k (ltb-false k middle e) b
 
 module _ (table : Table) (entries : List ℕ) (cfg key : ℕ) where
   outside-high : (k : ℕ) → enabledRange cfg .end ≤ k → candidate table entries cfg key k ≡ false
@@ -52,9 +74,17 @@ module _ (table : Table) (entries : List ℕ) (cfg key : ℕ) where
   unfolding candidate
   inside k l h = rw (le-leb (enabledRange cfg .first) k l, lt-ltb k (enabledRange cfg .end) h)
 
-  pub held-start : held table entries cfg key ≡ highest (candidate table entries cfg key) (enabledRange cfg .end)
+  silent : (k : ℕ) → answers table key (getD entries k 0) ≡ false → candidate table entries cfg key k ≡ false
+  unfolding candidate
+  silent k e = rw (e, and-false)
+
+  held-start : held table entries cfg key ≡ highest (candidate table entries cfg key) (enabledRange cfg .end)
   unfolding held
-  held-start = highest-skip (candidate table entries cfg key) (enabledRange cfg .end) 16 (end-low cfg) outside-high
+  held-start = highest-skip (candidate table entries cfg key) (enabledRange cfg .end) 16 (end-low cfg) (λ k h b. outside-high k h)
+
+  -- the search may start below entries that don't answer
+  pub held-below : (i : ℕ) → i ≤ enabledRange cfg .end → NoneAnswers table entries key i (enabledRange cfg .end) → held table entries cfg key ≡ highest (candidate table entries cfg key) i
+  held-below i h none = held-start ∙ highest-skip (candidate table entries cfg key) i (enabledRange cfg .end) h (λ k l b. silent k (none k l b))
 
   pub held-none : (i : ℕ) → i ≤ enabledRange cfg .first → highest (candidate table entries cfg key) i ≡ Nothing
   held-none i h = highest-none (candidate table entries cfg key) i (λ k l. outside-low k (omega arith))

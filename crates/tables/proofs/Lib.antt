@@ -3,3 +3,4 @@ pub mod Clear
 pub mod Ranges
 pub mod Highest
 pub mod States
+pub mod Fields

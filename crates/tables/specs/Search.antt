@@ -1,6 +1,7 @@
 -- The entry that holds for a key.
-use Prim.Native.Nat.{ℕ, zero, suc}
-use mathlib.Core.Bool.{Bool, cond, _&&_}
+use Prim.Native.Nat.{ℕ, zero, suc, _≤_, _<_}
+use mathlib.Core.Path.{_≡_}
+use mathlib.Core.Bool.{Bool, false, cond, _&&_}
 use mathlib.Core.List.{List}
 use lib.Dec.{eqb}
 use lib.ListN.{getD}
@@ -15,6 +16,10 @@ use Rattle.tables.specs.Entry.{registerEntry, predicateEntry}
 unfoldable pub answers : Table → ℕ → ℕ → Bool
 answers Register key word = registerEntry word .integer && eqb (registerEntry word .key) key
 answers Predicate key word = predicateEntry word .integer && eqb (predicateEntry word .key) key
+
+-- no entry of some indices answers
+abbrev pub NoneAnswers : Table → List ℕ → ℕ → ℕ → ℕ → Type 0
+NoneAnswers table entries key first end = (k : ℕ) → first ≤ k → k < end → answers table key (getD entries k 0) ≡ false
 
 -- An entry outside the enabled range does not exist for the search.
 unfoldable pub candidate : Table → List ℕ → ℕ → ℕ → ℕ → Bool

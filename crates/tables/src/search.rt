@@ -1,9 +1,9 @@
 // The entry that holds for a key: the same search in both tables.
+ghost use Prim.Native.Nat.{_+_, _≤_};
 ghost use mathlib.Core.Path.{_≡_};
-ghost use Rattle.tables.specs.Search.{answers, held};
+ghost use mathlib.Core.Bool.{true};
+ghost use Rattle.tables.specs.Search.{answers, held, NoneAnswers};
 use crate::enabled::enabled_range;
-use crate::entry::PredicateEntry;
-use crate::entry::RegisterEntry;
 
 pub enum Table {
     Register,
@@ -16,20 +16,50 @@ pub enum Held {
     Nothing,
 }
 
-// Whether an entry is an integer one with this key.
+// Whether an entry is an integer one with this key: one comparison of both fields, without the bits between them.
 pub fn entry_answers(table: Table, key: u8, word: u16) -> bool
     ensures { λ r. ⌜ r ≡ answers table key word ⌝ }
 {
     match table {
         Table::Register => {
-            let entry = RegisterEntry::of(word);
-            entry.integer & (entry.key == key)
+            let low = word % 256;
+            low - low / 32 % 4 * 32 == 128 + key as u16
         }
         Table::Predicate => {
-            let entry = PredicateEntry::of(word);
-            entry.integer & (entry.key == key)
+            let high = word / 256;
+            high - high / 2 % 4 * 2 == 1 + key as u16 * 8
         }
     }
+}
+
+// Whether none of the eight entries from an index on answers: one comparison of all eight.
+fn none_of_eight(table: Table, entries: &[u16; 16], key: u8, first: usize) -> bool
+    requires { ⌜ first ≤ 8 ⌝ }
+    ensures { λ r. ⌜ (r ≡ true → NoneAnswers table (now (entries .entry)) key first (first + 8)) ⌝ }
+{
+    let mut none = true;
+    let mut n: usize = 0;
+    while n < 8 {
+        none = none & !entry_answers(table, key, entries[first + n]);
+        n += 1;
+    }
+    none
+}
+
+// An index from which on no entry below `end` answers. Most tables have few entries, so that most searches end here.
+fn reach(table: Table, entries: &[u16; 16], key: u8, end: usize) -> usize
+    requires { ⌜ end ≤ 16 ⌝ }
+    ensures { λ r. ⌜ (r ≤ end) × NoneAnswers table (now (entries .entry)) key r end ⌝ }
+{
+    if none_of_eight(table, entries, key, 8) {
+        if none_of_eight(table, entries, key, 0) {
+            return 0;
+        }
+        if 8 < end {
+            return 8;
+        }
+    }
+    end
 }
 
 pub fn held_for(table: Table, entries: &[u16; 16], cfg: u32, key: u8) -> Held
@@ -37,7 +67,7 @@ pub fn held_for(table: Table, entries: &[u16; 16], cfg: u32, key: u8) -> Held
 {
     let range = enabled_range(cfg);
     let first = range.first;
-    let mut i = range.end;
+    let mut i = reach(table, entries, key, range.end);
     while first < i {
         i -= 1;
         if entry_answers(table, key, entries[i]) {

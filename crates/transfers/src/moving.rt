@@ -7,7 +7,7 @@ ghost use Rattle.transfers.specs.SidesReady.{SidesReady, Within};
 use crate::sides::Sides;
 use answers::Answer;
 use pairs::Pair;
-use registers::write;
+use registers::write_within;
 use walk::position::Position;
 use walk::position::Ran;
 
@@ -22,7 +22,7 @@ impl Sides {
             Pair::Found(i, j) => {
                 let value = registers[self.source.place.at(i)];
                 let to = self.destination.place.at(j);
-                write(registers, to, value);
+                write_within(registers, to, value);
                 self.after(position, 2, i, j)
             }
         }

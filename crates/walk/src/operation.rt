@@ -10,7 +10,7 @@ use crate::position::Ran;
 use answers::Answer;
 use operands::mask::Mask;
 use operands::place::Place;
-use registers::write;
+use registers::write_within;
 use scalar::compute::Operator;
 use scalar::compute::compute;
 
@@ -76,14 +76,14 @@ impl OperationPlan {
         let to = self.destination.at(i);
         if self.mask.is_on(i) {
             let value = self.element(registers, i);
-            write(registers, to, value);
+            write_within(registers, to, value);
             if self.destination.vector {
                 return self.go_on(position, i);
             }
             return position.ended(4);
         }
         if self.mask.zeroing {
-            write(registers, to, 0);
+            write_within(registers, to, 0);
         }
         self.go_on(position, i)
     }

@@ -1,4 +1,3 @@
-use native.Mathlib.Nat.{le-of-lt}
 use borrow.Author.Needs.{needs}
 use Rattle.pairs.proofs.Laws.{start-in}
 use Rattle.transfers.specs.Transfer.{pairOf}
@@ -9,8 +8,8 @@ find-pair-requires : tie.Need-find-pair-requires
 find-pair-requires c κs =
     let pre = c .before .before .pre in (
       pre .0 .most,
-      rw (c .before .start .ensures) (le-of-lt (start-in _ _ _ (pre .1 .source))),
-      rw (c .start2 .ensures) (le-of-lt (start-in _ _ _ (pre .1 .destination))),
+      rw (c .before .start .ensures) (start-in _ _ _ (pre .1 .source)),
+      rw (c .start2 .ensures) (start-in _ _ _ (pre .1 .destination)),
     )
 
 returns : tie.Need-returns

@@ -36,6 +36,11 @@ element-copy-out-value c = from-below c
 at-requires-2 : tie.Need-at-requires-2
 at-requires-2 c κs = at-pair (c .before .before) .destination
 
+write-within-requires : tie.Need-write-within-requires
+write-within-requires c κs =
+    let a = c .before in
+    rw (a .at2 .ensures) (at-pair (a .before .before .before) .destination)
+
 after-requires : tie.Need-after-requires
 after-requires c κs = let r = at-pair (c .before .before .before .before .before) in (r .i-below, r .j-below)
 
@@ -53,7 +58,7 @@ returns-2 c =
     let w = c .before in
     let b = w .before .before in
     let a = b .before .before in
-    rw (c .after .ensures, w .write .ensures, b .at2 .ensures, a .at .ensures)
+    rw (c .after .ensures, w .write-within .ensures, b .at2 .ensures, a .at .ensures)
     (unit-moved _ _ _ _ _ _ (found (a .before)) _ _ (unfold moveElement in refl))
 
 pub move-unit-spec : {M : Type 1} → statement M
@@ -68,7 +73,7 @@ move-unit-spec =
     mul-value
     element-copy-out-value
     at-requires-2
-    (λ c κs. search needs)
+    write-within-requires
     after-requires
     returns
     returns-2)

@@ -1,12 +1,12 @@
 use mathlib.Core.Path.{_≡_, sym, _∙_}
 use borrow.Author.Needs.{needs}
 use Rattle.pairs.specs.declared.Pair.the-variants.{Found, End}
-use Rattle.transfers.specs.Loading.{loadUnit}
+use Rattle.accesses.specs.Loading.{loadUnit}
 use Rattle.transfers.specs.Transfer.{pairOf}
-use Rattle.transfers.proofs.Elements.{load-value, load-outside}
+use Rattle.accesses.proofs.Elements.{load-value, load-outside}
 use Rattle.transfers.proofs.TransferLaws.{Reached, reached, unit-end, unit-moved, unit-outside}
-use Rattle.transfers.proofs.loading.LoadPlan.unit.Statement.{statement}
-use Rattle.transfers.proofs.loading.LoadPlan.unit.Tie as tie
+use Rattle.accesses.proofs.loading.LoadPlan.unit.Statement.{statement}
+use Rattle.accesses.proofs.loading.LoadPlan.unit.Tie as tie
 
 -- the pair that was found
 found :
@@ -29,9 +29,14 @@ address-at-requires c κs = let r = at-pair (c .before) in (r .source, r .i-belo
 at-requires : tie.Need-at-requires
 at-requires c κs = at-pair (c .before .before .before .before .before .before) .destination
 
+write-within-requires : tie.Need-write-within-requires
+write-within-requires c κs =
+    let a = c .before in
+    rw (a .at .ensures) (at-pair (a .before .before .before .before .before .before .before) .destination)
+
 after-requires : tie.Need-after-requires
 after-requires c κs =
-    let a = c .before .before .before .before in
+    let a = c .before .before .before in
     let r = at-pair (a .before .before .before .before .before .before) in
     (r .i-below, r .j-below)
 
@@ -45,12 +50,12 @@ returns-2 : tie.Need-returns-2
 unfolding loadUnit
 returns-2 c =
     let w = c .before in
-    let t = w .before .before .before in
+    let t = w .before .before in
     let v = t .before .before in
     let l = v .before .before in
     let a = l .before in
-    let value = sym (l .load .ensures) ∙ v .value .given .1 in
-    rw (c .after .ensures, w .write .ensures, w .before .extended .ensures, t .at .ensures)
+    let value = sym (l .fetch .ensures) ∙ v .value .given .1 in
+    rw (c .after .ensures, w .write-within .ensures, t .at .ensures)
     (unit-moved _ _ _ _ _ _ (found (a .before .before)) _ _ (load-value _ _ _ _ _ (a .address-at .ensures) _ value))
 
 returns-3 : tie.Need-returns-3
@@ -58,7 +63,7 @@ unfolding loadUnit
 returns-3 c =
     let l = c .before .before .before in
     let a = l .before in
-    let refused = sym (l .load .ensures) ∙ c .before .enum-told2 .given .1 in
+    let refused = sym (l .fetch .ensures) ∙ c .before .enum-told2 .given .1 in
     rw (c .at2 .ensures)
     (unit-outside _ _ _ _ _ _ (found (a .before .before)) _ (load-outside _ _ _ _ _ (a .address-at .ensures) refused))
 
@@ -74,8 +79,7 @@ unit-spec =
     (λ c κs. search needs)
     (λ c. search needs)
     at-requires
-    (λ c κs. search needs)
-    (λ c κs. search needs)
+    write-within-requires
     after-requires
     (λ c. search needs)
     (λ c κs. search needs)

@@ -3,12 +3,12 @@ use mathlib.Core.Path.{_≡_, sym, _∙_}
 use borrow.Author.Needs.{needs}
 use Rattle.memory.proofs.Transfer.{stored-outside}
 use Rattle.pairs.specs.declared.Pair.the-variants.{Found, End}
-use Rattle.transfers.specs.Storing.{storeUnit}
+use Rattle.accesses.specs.Storing.{storeUnit}
 use Rattle.transfers.specs.Transfer.{pairOf}
-use Rattle.transfers.proofs.Elements.{store-done, store-outside}
+use Rattle.accesses.proofs.Elements.{store-done, store-outside}
 use Rattle.transfers.proofs.TransferLaws.{Reached, reached, unit-end, unit-moved, unit-outside}
-use Rattle.transfers.proofs.storing.StorePlan.unit.Statement.{statement}
-use Rattle.transfers.proofs.storing.StorePlan.unit.Tie as tie
+use Rattle.accesses.proofs.storing.StorePlan.unit.Statement.{statement}
+use Rattle.accesses.proofs.storing.StorePlan.unit.Tie as tie
 
 -- the pair that was found
 found :
@@ -55,8 +55,8 @@ returns-2 c =
     let s = c .before .before .before .before .before in
     let v = s .before .before .before in
     let a = v .before in
-    let done = sym (s .store .ensures .0) ∙ c .before .enum-told2 .given .1 in
-    rw (c .after .ensures, s .store .ensures .1, v .at .ensures)
+    let done = sym (s .put .ensures .0) ∙ c .before .enum-told2 .given .1 in
+    rw (c .after .ensures, s .put .ensures .1, v .at .ensures)
     (unit-moved _ _ _ _ _ _ (found (a .before)) _ _ (store-done _ _ _ _ _ (a .address-at .ensures) done))
 
 returns-3 : tie.Need-returns-3
@@ -65,8 +65,8 @@ returns-3 c =
     let s = c .before .before .before .before .before in
     let v = s .before .before .before in
     let a = v .before in
-    let refused = sym (s .store .ensures .0) ∙ c .before .enum-told3 .given .1 in
-    rw (c .at2 .ensures, s .store .ensures .1, stored-outside _ _ _ _ refused)
+    let refused = sym (s .put .ensures .0) ∙ c .before .enum-told3 .given .1 in
+    rw (c .at2 .ensures, s .put .ensures .1, stored-outside _ _ _ _ refused)
     (unit-outside _ _ _ _ _ _ (found (a .before)) _ (store-outside _ _ _ _ _ (a .address-at .ensures) refused))
 
 pub unit-spec : {M : Type 1} → statement M

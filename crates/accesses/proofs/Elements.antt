@@ -5,18 +5,18 @@ use native.Mathlib.Omega.{arith}
 use lib.ListN.{getD}
 use Rattle.memory.specs.declared.load.Loaded.the-variants as load
 use Rattle.memory.specs.declared.store.Stored.the-variants as store
-use Rattle.memory.specs.Transfer.{loaded, storeAnswer, stored}
+use Rattle.memory.specs.Transfer.{storeAnswer, stored}
 use Rattle.operands.specs.Place.{registerAt}
 use Rattle.registers.specs.Written.{written}
 use Rattle.scalar.specs.declared.width.Width.{Width}
 use Rattle.scalar.specs.declared.width.Width.the-variants.{Byte, Half, Word, Double}
 use Rattle.scalar.specs.Width.{bytesOf}
-use Rattle.transfers.specs.declared.loading.LoadPlan.{LoadPlan}
-use Rattle.transfers.specs.declared.storing.StorePlan.{StorePlan}
+use Rattle.accesses.specs.declared.loading.LoadPlan.{LoadPlan}
+use Rattle.accesses.specs.declared.storing.StorePlan.{StorePlan}
 use Rattle.walk.specs.Context.{Context}
-use Rattle.transfers.specs.Loading.{addressAt, extended, loadElement}
-use Rattle.transfers.specs.Storing.{storeElement}
+use Rattle.accesses.specs.Loading.{addressAt, fetched, loadElement}
+use Rattle.accesses.specs.Storing.{storeElement}
 use Rattle.transfers.specs.Transfer.{moved, outside}
 
 -- the stride of an address has 64 bits
 pub stride-fits : (i : ℕ) (width : Width) → i < 64 → i * bytesOf width < 512
@@ -29,16 +29,14 @@ module _ (p : LoadPlan) (c : Context) (i j address : ℕ)
     (at : address ≡ addressAt (p .sides .source .place) (p .offset) (p .width) (c .registers) i)
   where
     pub load-value :
-        (value : ℕ) → loaded (c .memory) address (bytesOf (p .width)) ≡ load.Value value →
+        (value : ℕ) → fetched (c .memory) address (p .width) (p .signed) ≡ load.Value value →
         loadElement p c i j
-        ≡ moved
-        (written (c .registers) (registerAt (p .sides .destination .place) j) (extended (p .signed) (p .width) value))
-        (c .memory)
+        ≡ moved (written (c .registers) (registerAt (p .sides .destination .place) j) value) (c .memory)
     unfolding loadElement
     load-value value e = rw (← at, e)
 
     pub load-outside :
-        loaded (c .memory) address (bytesOf (p .width)) ≡ load.Outside → loadElement p c i j ≡ outside address
+        fetched (c .memory) address (p .width) (p .signed) ≡ load.Outside → loadElement p c i j ≡ outside address
     unfolding loadElement
     load-outside e = rw (← at, e)
 

@@ -1,9 +1,9 @@
 use native.Mathlib.Nat.{mod-add-mod}
 use borrow.Author.Needs.{needs}
-use Rattle.transfers.specs.Loading.{addressAt}
-use Rattle.transfers.proofs.Elements.{stride-fits}
-use Rattle.transfers.proofs.loading.address_at.Statement.{statement}
-use Rattle.transfers.proofs.loading.address_at.Tie as tie
+use Rattle.accesses.specs.Loading.{addressAt}
+use Rattle.accesses.proofs.Elements.{stride-fits}
+use Rattle.accesses.proofs.loading.address_at.Statement.{statement}
+use Rattle.accesses.proofs.loading.address_at.Tie as tie
 
 returns : tie.Need-returns
 unfolding addressAt

@@ -8,10 +8,10 @@ use Rattle.memory.specs.declared.store.Stored.the-variants.{Done, Outside}
 use Rattle.memory.specs.Transfer.{storeAnswer, stored}
 use Rattle.operands.specs.Place.{registerAt}
 use Rattle.pausable.specs.Outcome.{Outcome}
-use Rattle.transfers.specs.declared.storing.StorePlan.{StorePlan}
+use Rattle.accesses.specs.declared.storing.StorePlan.{StorePlan}
 use Rattle.walk.specs.Context.{Context}
-use Rattle.transfers.specs.Loading.{addressAt}
+use Rattle.accesses.specs.Loading.{addressAt}
 use Rattle.transfers.specs.Transfer.{Transferred, moved, outside, transferUnit}
 
 abbrev pub storedTo : StorePlan → Context → ℕ → ℕ → Stored → Transferred
 storedTo p c address value Done = moved (c .registers) (stored (c .memory) address (bytesOf (p .width)) value)

@@ -4,17 +4,17 @@ ghost use Prim.Native.Nat.{_<_};
 ghost use Rattle.operands.specs.Place.{registerAt};
 ghost use Rattle.pausable.specs.Walk.{walk};
 ghost use Rattle.walk.specs.Context.{context, left, pausing};
-ghost use Rattle.transfers.specs.Loading.{addressAt, extended, loadUnit};
+ghost use Rattle.accesses.specs.Loading.{addressAt, fetched, loadUnit};
 ghost use Rattle.transfers.specs.SidesReady.{SidesReady, Within};
-use crate::sides::Sides;
 use answers::Answer;
 use memory::load::Loaded;
 use memory::load::load;
 use operands::place::Place;
 use pairs::Pair;
-use registers::write;
+use registers::write_within;
 use scalar::signed::sign_extend;
 use scalar::width::Width;
+use transfers::sides::Sides;
 use walk::position::Position;
 use walk::position::Ran;
 
@@ -43,19 +43,34 @@ pub(crate) fn address_at(
     std::num::wrapping_add_u64(base, i as u64 * width.bytes())
 }
 
-impl LoadPlan {
-    // A loaded number as 64 bits.
-    fn extended(self, value: u64) -> u64
-        ensures { λ r. ⌜ r ≡ extended (self .signed) (self .width) value ⌝ }
-    {
-        let width = self.width;
-        if self.signed {
-            sign_extend(width, value)
-        } else {
-            value
+// The number of the bytes at an address, as 64 bits.
+fn fetch_as(memory: &[u8], address: u64, width: Width, signed: bool) -> Loaded
+    ensures { λ r. ⌜ r ≡ fetched (now (memory .entry)) address width signed ⌝ }
+{
+    match load(memory, address, width) {
+        Loaded::Value(value) => {
+            if signed {
+                return Loaded::Value(sign_extend(width, value));
+            }
+            Loaded::Value(value)
         }
+        Loaded::Outside => Loaded::Outside,
     }
+}
 
+// The same, with the width told apart once: each case is compiled for its own width.
+fn fetch(memory: &[u8], address: u64, width: Width, signed: bool) -> Loaded
+    ensures { λ r. ⌜ r ≡ fetched (now (memory .entry)) address width signed ⌝ }
+{
+    match width {
+        Width::Byte => fetch_as(memory, address, Width::Byte, signed),
+        Width::Half => fetch_as(memory, address, Width::Half, signed),
+        Width::Word => fetch_as(memory, address, Width::Word, signed),
+        Width::Double => fetch_as(memory, address, Width::Double, signed),
+    }
+}
+
+impl LoadPlan {
     // One element.
     pub fn unit(self, position: Position, registers: &mut [u64; 128], memory: &[u8]) -> Ran
         requires { ⌜ SidesReady (self .sides) × Within (self .sides .vl) position ⌝ }
@@ -67,10 +82,10 @@ impl LoadPlan {
             Pair::Found(i, j) => {
                 let width = self.width;
                 let address = address_at(sides.source.place, self.offset, width, registers, i);
-                match load(memory, address, width) {
+                match fetch(memory, address, width, self.signed) {
                     Loaded::Value(value) => {
                         let to = sides.destination.place.at(j);
-                        write(registers, to, self.extended(value));
+                        write_within(registers, to, value);
                         sides.after(position, 4, i, j)
                     }
                     Loaded::Outside => Ran {

@@ -14,9 +14,9 @@ use Rattle.memory.specs.Transfer.{loaded}
 use Rattle.operands.specs.declared.place.Place.{Place}
 use Rattle.operands.specs.Place.{registerAt}
 use Rattle.pausable.specs.Outcome.{Outcome}
-use Rattle.transfers.specs.declared.loading.LoadPlan.{LoadPlan}
+use Rattle.accesses.specs.declared.loading.LoadPlan.{LoadPlan}
 use Rattle.walk.specs.Context.{Context}
 use Rattle.transfers.specs.Transfer.{Transferred, moved, outside, transferUnit}
 
 -- The address of position i is (register + immediate + i × bytes of the access) when the address register is scalar, and
 -- (register at i + immediate) when it's a vector, both modulo 2^64.
@@ -31,18 +31,23 @@ abbrev pub extended : Bool → Width → ℕ → ℕ
 extended true width value = signExtended width value
 extended false width value = value
 
+abbrev pub widened : Bool → Width → Loaded → Loaded
+widened signed width (Value value) = Value (extended signed width value)
+widened signed width Outside = Outside
+
+unfoldable pub fetched : List ℕ → ℕ → Width → Bool → Loaded
+fetched memory address width signed = widened signed width (loaded memory address (bytesOf width))
+
 abbrev pub loadedTo : LoadPlan → Context → ℕ → ℕ → Loaded → Transferred
 loadedTo p c address j (Value value) =
-    moved
-    (written (c .registers) (registerAt (p .sides .destination .place) j) (extended (p .signed) (p .width) value))
-    (c .memory)
+    moved (written (c .registers) (registerAt (p .sides .destination .place) j) value) (c .memory)
 loadedTo p c address j Outside = outside address
 
 -- the source side is the address
 unfoldable pub loadElement : LoadPlan → Context → ℕ → ℕ → Transferred
 loadElement p c i j =
     let address = addressAt (p .sides .source .place) (p .offset) (p .width) (c .registers) i in
-    loadedTo p c address j (loaded (c .memory) address (bytesOf (p .width)))
+    loadedTo p c address j (fetched (c .memory) address (p .width) (p .signed))
 
 unfoldable pub loadUnit : LoadPlan → Context → Outcome Answer Context
 loadUnit p c = transferUnit (p .sides) 4 (loadElement p) c

@@ -1,16 +1,18 @@
 // A store: its destination side is the address.
 ghost use mathlib.Core.Path.{_≡_};
+ghost use Rattle.memory.specs.Transfer.{storeAnswer, stored};
+ghost use Rattle.scalar.specs.Width.{bytesOf};
 ghost use Rattle.pausable.specs.Walk.{walk};
 ghost use Rattle.walk.specs.Context.{context, left, pausing};
 ghost use Rattle.transfers.specs.SidesReady.{SidesReady, Within};
-ghost use Rattle.transfers.specs.Storing.{storeUnit};
+ghost use Rattle.accesses.specs.Storing.{storeUnit};
 use crate::loading::address_at;
-use crate::sides::Sides;
 use answers::Answer;
 use memory::store::Stored;
 use memory::store::store;
 use pairs::Pair;
 use scalar::width::Width;
+use transfers::sides::Sides;
 use walk::position::Position;
 use walk::position::Ran;
 
@@ -18,6 +20,19 @@ pub struct StorePlan {
     pub sides: Sides,
     pub offset: u64,
     pub width: Width,
+}
+
+// A store with the width told apart once: each case is compiled for its own width.
+fn put(memory: &mut [u8], address: u64, width: Width, value: u64) -> Stored
+    ensures answer { λ r. ⌜ r ≡ storeAnswer (now (memory .entry)) address (bytesOf width) ⌝ }
+    ensures bytes { λ _. ⌜ now (memory .exit) ≡ stored (now (memory .entry)) address (bytesOf width) value ⌝ }
+{
+    match width {
+        Width::Byte => store(memory, address, Width::Byte, value),
+        Width::Half => store(memory, address, Width::Half, value),
+        Width::Word => store(memory, address, Width::Word, value),
+        Width::Double => store(memory, address, Width::Double, value),
+    }
 }
 
 impl StorePlan {
@@ -33,7 +48,7 @@ impl StorePlan {
                 let width = self.width;
                 let address = address_at(sides.destination.place, self.offset, width, registers, j);
                 let value = registers[sides.source.place.at(i)];
-                match store(memory, address, width, value) {
+                match put(memory, address, width, value) {
                     Stored::Done => sides.after(position, 4, i, j),
                     Stored::Outside => Ran {
                         answer: Answer::Fault(address),

@@ -4,11 +4,11 @@ use borrow.Author.Tests.{not-true, not-false}
 use Rattle.pausable.specs.Walk.{walk}
 use Rattle.pausable.proofs.Turn.{walk-more, walk-end, walk-none}
 use Rattle.walk.specs.Context.{context, pausing}
-use Rattle.transfers.specs.Loading.{loadUnit}
+use Rattle.accesses.specs.Loading.{loadUnit}
 use Rattle.transfers.specs.SidesReady.{Within}
 use Rattle.transfers.proofs.TransferLaws.{unit-within}
-use Rattle.transfers.proofs.loading.LoadPlan.walk.Statement.{statement}
-use Rattle.transfers.proofs.loading.LoadPlan.walk.Tie as tie
+use Rattle.accesses.proofs.loading.LoadPlan.walk.Statement.{statement}
+use Rattle.accesses.proofs.loading.LoadPlan.walk.Tie as tie
 
 -- what is left to walk from here is the walk from the start
 abbrev Inv-loop : tie.InvT-loop

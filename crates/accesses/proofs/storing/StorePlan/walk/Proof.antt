@@ -5,11 +5,11 @@ use lib.ListN.{length}
 use Rattle.pausable.specs.Walk.{walk}
 use Rattle.pausable.proofs.Turn.{walk-more, walk-end, walk-none}
 use Rattle.walk.specs.Context.{context, pausing}
 use Rattle.transfers.specs.SidesReady.{Within}
-use Rattle.transfers.specs.Storing.{storeUnit}
+use Rattle.accesses.specs.Storing.{storeUnit}
 use Rattle.transfers.proofs.TransferLaws.{unit-within}
-use Rattle.transfers.proofs.storing.StorePlan.walk.Statement.{statement}
-use Rattle.transfers.proofs.storing.StorePlan.walk.Tie as tie
+use Rattle.accesses.proofs.storing.StorePlan.walk.Statement.{statement}
+use Rattle.accesses.proofs.storing.StorePlan.walk.Tie as tie
 
 -- what is left to walk from here is the walk from the start
 abbrev Inv-loop : tie.InvT-loop
