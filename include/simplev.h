@@ -1,0 +1,293 @@
+/* simplev.h: the trap handler for Simple-V on RV64, as C calls it.
+ *
+ * The caller owns a machine, `struct simplev_machine`, and a memory of bytes, and lends both to each call, which works
+ * on them in place. The library keeps nothing, allocates nothing, and calls nothing. A call may be made on any machine
+ * from any thread, as long as no other call has the same machine or memory at that time.
+ *
+ * Link with libembed.a (`rt staticlib embed` writes target/staticlib/libembed.a).
+ *
+ * What each call guarantees, whatever the machine, the word, the memory and the arguments hold (proved, see
+ * docs/CONTRACTS.md, section "C interface"):
+ *
+ *  - It ends, and returns one of the answers below. Nothing has to be checked before it.
+ *  - Its out-parameter (`value` or `address`) is always written: with what the call's comment says, and with 0 where the
+ *    answer is a refusal.
+ *  - A refusal (2, 3, 4, 6, 7, 8) changes nothing in the machine or the memory.
+ *  - It writes only what is not const in its declaration, and of memory only bytes that a store of the instruction names.
+ *
+ * What the compiler can't check, and only the caller can keep:
+ *
+ *  - The pointers are valid, aligned and of the sizes named here, the out-parameter's too.
+ *  - The arrays, the memory and the out-parameter do not overlap each other.
+ *  - `memory` is a valid pointer, not NULL, even where `size` is 0.
+ */
+#ifndef SIMPLEV_H
+#define SIMPLEV_H
+
+#include <stddef.h>
+#include <stdint.h>
+
+#define SIMPLEV_VERSION "1.0.0"
+#define SIMPLEV_VERSION_MAJOR 1
+#define SIMPLEV_VERSION_MINOR 0
+#define SIMPLEV_VERSION_PATCH 0
+
+/* The limits of a machine. */
+#define SIMPLEV_REGISTERS 128 /* integer registers of 64 bits; register 0 is always 0 */
+#define SIMPLEV_ELEMENTS 64   /* the largest MVL */
+#define SIMPLEV_ENTRIES 16    /* entries in each table */
+
+/* The words of `control`. */
+#define SIMPLEV_PC 0          /* program counter */
+#define SIMPLEV_MVL 1         /* 1 to 64 */
+#define SIMPLEV_VL 2          /* 1 to MVL */
+#define SIMPLEV_CFG 3         /* 0 to 31 */
+#define SIMPLEV_SOURCE 4      /* source offset, below VL */
+#define SIMPLEV_DESTINATION 5 /* destination offset, below VL */
+#define SIMPLEV_CONTROL 6     /* how many there are */
+
+/* What a call says. A run looks for refusals in the order 6, 2, 4, 3, then at its allowance, then at each access (5). A
+ * setting call looks in the order 6, 8, 7, a reading call in the order 6, 8. */
+enum simplev_answer {
+    SIMPLEV_DONE = 0,           /* done */
+    SIMPLEV_PAUSED = 1,         /* the allowance was used up: call again with the same word */
+    SIMPLEV_UNKNOWN_WORD = 2,   /* not an instruction that is served */
+    SIMPLEV_PAST_REGISTERS = 3, /* a vector operand's register + VL - 1 is above 127 */
+    SIMPLEV_BAD_WIDTH = 4,      /* the entry that holds for an operand has a width other than 00 */
+    SIMPLEV_FAULT = 5,          /* an access does not lie wholly in memory */
+    SIMPLEV_OUT_OF_SHAPE = 6,   /* a range above broken, register 0 not 0, or bit 0 set in a predicate entry */
+    SIMPLEV_BAD_VALUE = 7,      /* a value that cannot be set */
+    SIMPLEV_NO_SUCH = 8         /* no such entry or register */
+};
+
+/* A machine. Its arrays stand in this order with no space between; each call takes them one by one, so a caller that
+ * keeps them apart, as one pair of tables for several machines, can call the functions themselves.
+ *
+ * Any content is accepted: a machine out of shape is refused with 6. Control words are 64 bits wide, and one above its
+ * range, also above 2^32, is out of shape. A machine of all zero bytes is out of shape: begin with simplev_machine_fresh.
+ *
+ * Register entry: bit 15 vector, bits 14..8 real register, bit 7 one for integer, bits 6..5 width, bits 4..0 key.
+ * Predicate entry: bits 15..11 key, bit 10 zeroing, bit 9 invert, bit 8 one for integer, bits 7..1 mask register, bit 0
+ * zero. */
+struct simplev_machine {
+    uint64_t registers[SIMPLEV_REGISTERS];     /* at byte 0 */
+    uint64_t control[SIMPLEV_CONTROL];         /* at byte 1024 */
+    uint16_t register_table[SIMPLEV_ENTRIES];  /* at byte 1072 */
+    uint16_t predicate_table[SIMPLEV_ENTRIES]; /* at byte 1104 */
+};                                             /* 1136 bytes */
+
+#if defined(__cplusplus) && __cplusplus >= 201103L
+#define SIMPLEV_ASSERT(fact, text) static_assert(fact, text)
+#elif defined(__STDC_VERSION__) && __STDC_VERSION__ >= 201112L
+#define SIMPLEV_ASSERT(fact, text) _Static_assert(fact, text)
+#endif
+#ifdef SIMPLEV_ASSERT
+SIMPLEV_ASSERT(offsetof(struct simplev_machine, registers) == 0, "registers at byte 0");
+SIMPLEV_ASSERT(offsetof(struct simplev_machine, control) == 1024, "control at byte 1024");
+SIMPLEV_ASSERT(offsetof(struct simplev_machine, register_table) == 1072, "register table at byte 1072");
+SIMPLEV_ASSERT(offsetof(struct simplev_machine, predicate_table) == 1104, "predicate table at byte 1104");
+SIMPLEV_ASSERT(sizeof(struct simplev_machine) == 1136, "1136 bytes");
+#undef SIMPLEV_ASSERT
+#endif
+
+#ifdef __cplusplus
+extern "C" {
+#endif
+
+/* The calls on the four arrays of a machine, in the order of the struct. Each has a wrapper below that takes the struct,
+ * where its comment stands. */
+
+void simplev_fresh(uint64_t *registers, uint64_t *control, uint16_t *register_table, uint16_t *predicate_table);
+
+uint32_t simplev_run(uint64_t *registers, uint64_t *control, const uint16_t *register_table,
+                     const uint16_t *predicate_table, uint32_t word, uint16_t allowance, uint8_t *memory, size_t size,
+                     uint64_t *address);
+uint32_t simplev_step(uint64_t *registers, uint64_t *control, const uint16_t *register_table,
+                      const uint16_t *predicate_table, uint32_t word, uint8_t *memory, size_t size, uint64_t *address);
+
+uint32_t simplev_set_vl(const uint64_t *registers, uint64_t *control, const uint16_t *register_table,
+                        const uint16_t *predicate_table, uint64_t n, uint64_t *value);
+uint32_t simplev_set_vl_immediate(const uint64_t *registers, uint64_t *control, const uint16_t *register_table,
+                                  const uint16_t *predicate_table, uint32_t n, uint64_t *value);
+uint32_t simplev_set_mvl(const uint64_t *registers, uint64_t *control, const uint16_t *register_table,
+                         const uint16_t *predicate_table, uint32_t n, uint64_t *value);
+uint32_t simplev_set_cfg(const uint64_t *registers, uint64_t *control, const uint16_t *register_table,
+                         const uint16_t *predicate_table, uint32_t n, uint64_t *value);
+uint32_t simplev_set_state_word(const uint64_t *registers, uint64_t *control, const uint16_t *register_table,
+                                const uint16_t *predicate_table, uint32_t word, uint64_t *value);
+uint32_t simplev_set_pc(const uint64_t *registers, uint64_t *control, const uint16_t *register_table,
+                        const uint16_t *predicate_table, uint64_t pc, uint64_t *value);
+uint32_t simplev_set_register(uint64_t *registers, const uint64_t *control, const uint16_t *register_table,
+                              const uint16_t *predicate_table, uint32_t index, uint64_t value_in, uint64_t *value);
+uint32_t simplev_set_register_entry(const uint64_t *registers, const uint64_t *control, uint16_t *register_table,
+                                    const uint16_t *predicate_table, uint32_t index, uint16_t entry, uint64_t *value);
+uint32_t simplev_set_predicate_entry(const uint64_t *registers, const uint64_t *control, const uint16_t *register_table,
+                                     uint16_t *predicate_table, uint32_t index, uint16_t entry, uint64_t *value);
+
+uint32_t simplev_read_vl(const uint64_t *registers, const uint64_t *control, const uint16_t *register_table,
+                         const uint16_t *predicate_table, uint64_t *value);
+uint32_t simplev_read_mvl(const uint64_t *registers, const uint64_t *control, const uint16_t *register_table,
+                          const uint16_t *predicate_table, uint64_t *value);
+uint32_t simplev_read_cfg(const uint64_t *registers, const uint64_t *control, const uint16_t *register_table,
+                          const uint16_t *predicate_table, uint64_t *value);
+uint32_t simplev_read_pc(const uint64_t *registers, const uint64_t *control, const uint16_t *register_table,
+                         const uint16_t *predicate_table, uint64_t *value);
+uint32_t simplev_read_state_word(const uint64_t *registers, const uint64_t *control, const uint16_t *register_table,
+                                 const uint16_t *predicate_table, uint64_t *value);
+uint32_t simplev_read_register(const uint64_t *registers, const uint64_t *control, const uint16_t *register_table,
+                               const uint16_t *predicate_table, uint32_t index, uint64_t *value);
+uint32_t simplev_read_register_entry(const uint64_t *registers, const uint64_t *control, const uint16_t *register_table,
+                                     const uint16_t *predicate_table, uint32_t index, uint64_t *value);
+uint32_t simplev_read_predicate_entry(const uint64_t *registers, const uint64_t *control,
+                                      const uint16_t *register_table, const uint16_t *predicate_table, uint32_t index,
+                                      uint64_t *value);
+
+/* The same calls on the struct. `m` is lent for the time of the call. */
+
+/* MVL 1, VL 1, CFG 24 and all else 0, whatever `m` held before. */
+static inline void simplev_machine_fresh(struct simplev_machine *m)
+{
+    simplev_fresh(m->registers, m->control, m->register_table, m->predicate_table);
+}
+
+/* Runs an instruction word for at most `allowance` elements, on a memory of `size` bytes at addresses from 0.
+ *
+ *  DONE    all elements done: the program counter has gone up by 4 (2 for C.MV), and both offsets are 0.
+ *  PAUSED  the elements so far are done, the program counter is where it was, and the offsets stand at the next element.
+ *          The same call again goes on from there, on this machine or on another into which this one was copied by the
+ *          reading and setting calls. However it is cut, the end is the same as of one call with the sum of the
+ *          allowances, as long as no mask register of an operand is among the registers that the instruction writes,
+ *          and memory is not touched in between. An allowance of VL or more never pauses. With allowance 0 a good word
+ *          pauses, and nothing changes.
+ *  FAULT   the elements before it are done, and the offsets stand at the one that failed; `*address` is the address of
+ *          its access. The program counter is where it was, so the same call again tries that element again.
+ *
+ * `*address` is 0 with every answer but FAULT. The tables, MVL, VL and CFG are never changed. */
+static inline uint32_t simplev_machine_run(struct simplev_machine *m, uint32_t word, uint16_t allowance, uint8_t *memory,
+                                           size_t size, uint64_t *address)
+{
+    return simplev_run(m->registers, m->control, m->register_table, m->predicate_table, word, allowance, memory, size,
+                       address);
+}
+
+/* A run with allowance 1. */
+static inline uint32_t simplev_machine_step(struct simplev_machine *m, uint32_t word, uint8_t *memory, size_t size,
+                                            uint64_t *address)
+{
+    return simplev_step(m->registers, m->control, m->register_table, m->predicate_table, word, memory, size, address);
+}
+
+/* Setting calls: answers DONE, OUT_OF_SHAPE, NO_SUCH or BAD_VALUE. `*value` is 0 but where the comment says more. */
+
+/* VL becomes min(n, MVL), and both offsets 0. BAD_VALUE where n is 0. `*value` is the new VL. */
+static inline uint32_t simplev_machine_set_vl(struct simplev_machine *m, uint64_t n, uint64_t *value)
+{
+    return simplev_set_vl(m->registers, m->control, m->register_table, m->predicate_table, n, value);
+}
+
+/* VL becomes min(n + 1, MVL), and both offsets 0. BAD_VALUE where n is above 31. `*value` is the new VL. */
+static inline uint32_t simplev_machine_set_vl_immediate(struct simplev_machine *m, uint32_t n, uint64_t *value)
+{
+    return simplev_set_vl_immediate(m->registers, m->control, m->register_table, m->predicate_table, n, value);
+}
+
+/* MVL becomes n, VL min(VL, n), and both offsets 0. BAD_VALUE where n is 0 or above 64. */
+static inline uint32_t simplev_machine_set_mvl(struct simplev_machine *m, uint32_t n, uint64_t *value)
+{
+    return simplev_set_mvl(m->registers, m->control, m->register_table, m->predicate_table, n, value);
+}
+
+/* BAD_VALUE where n is above 31. */
+static inline uint32_t simplev_machine_set_cfg(struct simplev_machine *m, uint32_t n, uint64_t *value)
+{
+    return simplev_set_cfg(m->registers, m->control, m->register_table, m->predicate_table, n, value);
+}
+
+/* State word: bits 5..0 MVL - 1, 11..6 VL - 1, 17..12 source offset, 23..18 destination offset, 28..24 CFG, 31..29 zero.
+ * VL is cut to MVL. BAD_VALUE where bits 31..29 are not zero or an offset is not below the cut VL. */
+static inline uint32_t simplev_machine_set_state_word(struct simplev_machine *m, uint32_t word, uint64_t *value)
+{
+    return simplev_set_state_word(m->registers, m->control, m->register_table, m->predicate_table, word, value);
+}
+
+/* Any program counter can be set. */
+static inline uint32_t simplev_machine_set_pc(struct simplev_machine *m, uint64_t pc, uint64_t *value)
+{
+    return simplev_set_pc(m->registers, m->control, m->register_table, m->predicate_table, pc, value);
+}
+
+/* NO_SUCH where index is above 127. A write to register 0 is DONE and changes nothing. */
+static inline uint32_t simplev_machine_set_register(struct simplev_machine *m, uint32_t index, uint64_t value_in,
+                                                    uint64_t *value)
+{
+    return simplev_set_register(m->registers, m->control, m->register_table, m->predicate_table, index, value_in, value);
+}
+
+/* NO_SUCH where index is above 15. */
+static inline uint32_t simplev_machine_set_register_entry(struct simplev_machine *m, uint32_t index, uint16_t entry,
+                                                          uint64_t *value)
+{
+    return simplev_set_register_entry(m->registers, m->control, m->register_table, m->predicate_table, index, entry,
+                                      value);
+}
+
+/* NO_SUCH where index is above 15, else BAD_VALUE where bit 0 of the entry is set. */
+static inline uint32_t simplev_machine_set_predicate_entry(struct simplev_machine *m, uint32_t index, uint16_t entry,
+                                                           uint64_t *value)
+{
+    return simplev_set_predicate_entry(m->registers, m->control, m->register_table, m->predicate_table, index, entry,
+                                       value);
+}
+
+/* Reading calls: answers DONE, OUT_OF_SHAPE or NO_SUCH. `*value` is what is read. */
+
+static inline uint32_t simplev_machine_read_vl(const struct simplev_machine *m, uint64_t *value)
+{
+    return simplev_read_vl(m->registers, m->control, m->register_table, m->predicate_table, value);
+}
+
+static inline uint32_t simplev_machine_read_mvl(const struct simplev_machine *m, uint64_t *value)
+{
+    return simplev_read_mvl(m->registers, m->control, m->register_table, m->predicate_table, value);
+}
+
+static inline uint32_t simplev_machine_read_cfg(const struct simplev_machine *m, uint64_t *value)
+{
+    return simplev_read_cfg(m->registers, m->control, m->register_table, m->predicate_table, value);
+}
+
+static inline uint32_t simplev_machine_read_pc(const struct simplev_machine *m, uint64_t *value)
+{
+    return simplev_read_pc(m->registers, m->control, m->register_table, m->predicate_table, value);
+}
+
+static inline uint32_t simplev_machine_read_state_word(const struct simplev_machine *m, uint64_t *value)
+{
+    return simplev_read_state_word(m->registers, m->control, m->register_table, m->predicate_table, value);
+}
+
+/* NO_SUCH where index is above 127. */
+static inline uint32_t simplev_machine_read_register(const struct simplev_machine *m, uint32_t index, uint64_t *value)
+{
+    return simplev_read_register(m->registers, m->control, m->register_table, m->predicate_table, index, value);
+}
+
+/* NO_SUCH where index is above 15. */
+static inline uint32_t simplev_machine_read_register_entry(const struct simplev_machine *m, uint32_t index,
+                                                           uint64_t *value)
+{
+    return simplev_read_register_entry(m->registers, m->control, m->register_table, m->predicate_table, index, value);
+}
+
+/* NO_SUCH where index is above 15. */
+static inline uint32_t simplev_machine_read_predicate_entry(const struct simplev_machine *m, uint32_t index,
+                                                            uint64_t *value)
+{
+    return simplev_read_predicate_entry(m->registers, m->control, m->register_table, m->predicate_table, index, value);
+}
+
+#ifdef __cplusplus
+}
+#endif
+
+#endif
