@@ -1,0 +1,2 @@
+// The calls as C makes them, on arrays that are lent: include/simplev.h declares them.
+pub mod running;

@@ -1,0 +1,37 @@
+-- How a machine stands in four arrays: registers, control, register table, predicate table.
+use Prim.Native.Nat.{ℕ}
+use mathlib.Core.Path.{_≡_}
+use mathlib.Core.List.{List, [], _∷_}
+use lib.ListN.{length, getD}
+use Rattle.tables.specs.declared.state.State.{State}
+use Rattle.machine.specs.declared.Machine.{Machine}
+
+-- the control words after the first
+abbrev pub stateOf : List ℕ → State
+stateOf control = record {
+  mvl = getD control 1 0;
+  vl = getD control 2 0;
+  cfg = getD control 3 0;
+  source = getD control 4 0;
+  destination = getD control 5 0;
+}
+
+-- the machine that four arrays hold
+abbrev pub machineOf : List ℕ → List ℕ → List ℕ → List ℕ → Machine
+machineOf registers control registerTable predicateTable = record {
+  registers = registers;
+  pc = getD control 0 0;
+  state = stateOf control;
+  «register_table» = registerTable;
+  «predicate_table» = predicateTable;
+}
+
+-- the control words of a program counter and a state
+abbrev pub controlOf : ℕ → State → List ℕ
+controlOf pc s = pc ∷ s .mvl ∷ s .vl ∷ s .cfg ∷ s .source ∷ s .destination ∷ []
+
+-- Machines and arrays determine each other: an equation of `machineOf` leaves no word of an array open.
+pub record Faithful : Type 0 where
+  pub machine : (m : Machine) →
+      machineOf (m .registers) (controlOf (m .pc) (m .state)) (m .«register_table») (m .«predicate_table») ≡ m
+  pub control : (control : List ℕ) → length control ≡ 6 → controlOf (getD control 0 0) (stateOf control) ≡ control
