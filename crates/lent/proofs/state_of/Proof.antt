@@ -1,35 +1,40 @@
+use Prim.Native.Nat.{ℕ, _≤_, _%_}
+use mathlib.Core.Path.{_≡_}
+use native.Mathlib.Nat.{mod-eq-of-lt}
+use native.Mathlib.Omega.{arith}
 use borrow.Author.Needs.{needs}
 use Rattle.tables.proofs.States.{bounds}
+use Rattle.lent.specs.Layout.{stateOf}
 use Rattle.lent.proofs.state_of.Statement.{statement}
 use Rattle.lent.proofs.state_of.Tie as tie
 
-cast-t5 : tie.Need-cast-t5
-cast-t5 c = let b = bounds _ (c .before .pre) in search (needs, b)
+low-word : (n : ℕ) → n ≤ 64 → n % 4294967296 ≡ n
+low-word n h = mod-eq-of-lt (omega arith)
 
-cast-t9 : tie.Need-cast-t9
-cast-t9 c = let b = bounds _ (c .before .before .pre) in search (needs, b)
-
-cast-t13 : tie.Need-cast-t13
-cast-t13 c = let b = bounds _ (c .before .before .before .pre) in search (needs, b)
-
-cast-t17 : tie.Need-cast-t17
-cast-t17 c = let b = bounds _ (c .before .before .before .before .pre) in search (needs, b)
-
-cast-t21 : tie.Need-cast-t21
-cast-t21 c = let b = bounds _ (c .before .before .before .before .before .pre) in search (needs, b)
+returns : tie.Need-returns
+returns c shaped =
+    let s = stateOf (c .before .before .before .before .before .args .control .now) in
+    let b = bounds s shaped in
+    rw (
+      low-word (s .mvl) (b .mvl-high),
+      low-word (s .vl) (omega arith),
+      low-word (s .cfg) (omega arith),
+      low-word (s .source) (omega arith),
+      low-word (s .destination) (omega arith),
+    )
 
 pub state-of-spec : {M : Type 1} → statement M
 state-of-spec =
     tie.close
     (tie.spec
     (λ c. search needs)
-    cast-t5
     (λ c. search needs)
-    cast-t9
     (λ c. search needs)
-    cast-t13
     (λ c. search needs)
-    cast-t17
     (λ c. search needs)
-    cast-t21
-    (λ c. search needs))
+    (λ c. search needs)
+    (λ c. search needs)
+    (λ c. search needs)
+    (λ c. search needs)
+    (λ c. search needs)
+    returns)

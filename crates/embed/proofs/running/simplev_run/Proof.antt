@@ -12,26 +12,21 @@ returns c =
     let test = c .before .before in
     leaves-refused _ _ _ (fails (test .before .in-shape .ensures) (test .if1 .taken)) (c .tell .ensures)
 
-state-of-requires : tie.Need-state-of-requires
-state-of-requires c κs =
-    let test = c .before in
-    parts _ (holds (test .before .in-shape .ensures) (test .if1 .left)) .state
-
 run-requires : tie.Need-run-requires
 run-requires c κs =
     let read = c .before .before .before in
     let test = read .before .before in
     let shaped = holds (test .before .in-shape .ensures) (test .if1 .left) in
-    rw (read .state-of .ensures) (vl-most _ shaped, standing-within _ shaped)
+    rw (read .state-of .ensures (parts _ shaped .state)) (vl-most _ shaped, standing-within _ shaped)
 
 returns-2 : tie.Need-returns-2
 returns-2 c =
     let ran = c .before .before .before .before .before .before .before .before .before .before .before in
     let read = ran .before .before .before .before in
     let test = read .before .before in
-    leaves-run _ _ _ _
-    (holds (test .before .in-shape .ensures) (test .if1 .left))
-    (rw (read .state-of .ensures) at (ran .run .ensures))
+    let shaped = holds (test .before .in-shape .ensures) (test .if1 .left) in
+    leaves-run _ _ _ _ shaped
+    (rw (read .state-of .ensures (parts _ shaped .state)) at (ran .run .ensures))
     (c .tell2 .ensures)
 
 pub simplev-run-spec : {M : Type 1} → statement M
@@ -41,7 +36,7 @@ simplev-run-spec =
     (λ c κs. search needs)
     (λ c κs. search needs)
     returns
-    state-of-requires
+    (λ c κs. search needs)
     (λ c. search needs)
     run-requires
     (λ c. search needs)

@@ -1,0 +1,253 @@
+// The calls that set one thing, in place. Refusals come in the order 6, 8, 7.
+ghost use Rattle.machine.specs.Setting.{setVl, setVlImmediate, setMvl, setCfg, setStateWord, setPc, setRegister, setRegisterEntry, setPredicateEntry};
+ghost use Rattle.lent.specs.Layout.{machineOf};
+ghost use Rattle.lent.specs.Leaves.{Replies};
+use answers::Answer;
+use lent::judged;
+use lent::put_entry;
+use lent::set_control;
+use lent::state_of;
+use lent::tell;
+use machine::Machine;
+use tables::state::State;
+use tables::state::good_word;
+
+#[no_mangle]
+pub extern "C" fn simplev_set_vl<'a>(
+    registers: &'a [u64; 128],
+    control: &mut [u64; 6],
+    register_table: &'a [u16; 16],
+    predicate_table: &'a [u16; 16],
+    n: u64,
+    value: &mut u64,
+) -> u32
+    ensures { λ r. ⌜ Replies (setVl (machineOf (now (registers .entry)) (now (control .entry)) (now («register_table» .entry)) (now («predicate_table» .entry))) n) r (now (value .exit)) (machineOf (now (registers .entry)) (now (control .exit)) (now («register_table» .entry)) (now («predicate_table» .entry))) ⌝ }
+{
+    let pc = control[0];
+    let old = state_of(control);
+    let state = old.with_vl(n);
+    set_control(
+        registers,
+        control,
+        register_table,
+        predicate_table,
+        1 <= n,
+        pc,
+        state,
+        state.vl as u64,
+        value,
+    )
+}
+
+#[no_mangle]
+pub extern "C" fn simplev_set_vl_immediate<'a>(
+    registers: &'a [u64; 128],
+    control: &mut [u64; 6],
+    register_table: &'a [u16; 16],
+    predicate_table: &'a [u16; 16],
+    n: u32,
+    value: &mut u64,
+) -> u32
+    ensures { λ r. ⌜ Replies (setVlImmediate (machineOf (now (registers .entry)) (now (control .entry)) (now («register_table» .entry)) (now («predicate_table» .entry))) n) r (now (value .exit)) (machineOf (now (registers .entry)) (now (control .exit)) (now («register_table» .entry)) (now («predicate_table» .entry))) ⌝ }
+{
+    let pc = control[0];
+    let old = state_of(control);
+    let state = old.with_vl(n as u64 + 1);
+    set_control(
+        registers,
+        control,
+        register_table,
+        predicate_table,
+        n <= 31,
+        pc,
+        state,
+        state.vl as u64,
+        value,
+    )
+}
+
+#[no_mangle]
+pub extern "C" fn simplev_set_mvl<'a>(
+    registers: &'a [u64; 128],
+    control: &mut [u64; 6],
+    register_table: &'a [u16; 16],
+    predicate_table: &'a [u16; 16],
+    n: u32,
+    value: &mut u64,
+) -> u32
+    ensures { λ r. ⌜ Replies (setMvl (machineOf (now (registers .entry)) (now (control .entry)) (now («register_table» .entry)) (now («predicate_table» .entry))) n) r (now (value .exit)) (machineOf (now (registers .entry)) (now (control .exit)) (now («register_table» .entry)) (now («predicate_table» .entry))) ⌝ }
+{
+    let pc = control[0];
+    let old = state_of(control);
+    let state = old.with_mvl(n);
+    set_control(
+        registers,
+        control,
+        register_table,
+        predicate_table,
+        (1 <= n) & (n <= Machine::ELEMENTS),
+        pc,
+        state,
+        0,
+        value,
+    )
+}
+
+#[no_mangle]
+pub extern "C" fn simplev_set_cfg<'a>(
+    registers: &'a [u64; 128],
+    control: &mut [u64; 6],
+    register_table: &'a [u16; 16],
+    predicate_table: &'a [u16; 16],
+    n: u32,
+    value: &mut u64,
+) -> u32
+    ensures { λ r. ⌜ Replies (setCfg (machineOf (now (registers .entry)) (now (control .entry)) (now («register_table» .entry)) (now («predicate_table» .entry))) n) r (now (value .exit)) (machineOf (now (registers .entry)) (now (control .exit)) (now («register_table» .entry)) (now («predicate_table» .entry))) ⌝ }
+{
+    let pc = control[0];
+    let mut state = state_of(control);
+    state.cfg = n;
+    set_control(
+        registers,
+        control,
+        register_table,
+        predicate_table,
+        n <= 31,
+        pc,
+        state,
+        0,
+        value,
+    )
+}
+
+#[no_mangle]
+pub extern "C" fn simplev_set_state_word<'a>(
+    registers: &'a [u64; 128],
+    control: &mut [u64; 6],
+    register_table: &'a [u16; 16],
+    predicate_table: &'a [u16; 16],
+    word: u32,
+    value: &mut u64,
+) -> u32
+    ensures { λ r. ⌜ Replies (setStateWord (machineOf (now (registers .entry)) (now (control .entry)) (now («register_table» .entry)) (now («predicate_table» .entry))) word) r (now (value .exit)) (machineOf (now (registers .entry)) (now (control .exit)) (now («register_table» .entry)) (now («predicate_table» .entry))) ⌝ }
+{
+    let pc = control[0];
+    let state = State::of_word(word).cut();
+    set_control(
+        registers,
+        control,
+        register_table,
+        predicate_table,
+        good_word(word),
+        pc,
+        state,
+        0,
+        value,
+    )
+}
+
+#[no_mangle]
+pub extern "C" fn simplev_set_pc<'a>(
+    registers: &'a [u64; 128],
+    control: &mut [u64; 6],
+    register_table: &'a [u16; 16],
+    predicate_table: &'a [u16; 16],
+    pc: u64,
+    value: &mut u64,
+) -> u32
+    ensures { λ r. ⌜ Replies (setPc (machineOf (now (registers .entry)) (now (control .entry)) (now («register_table» .entry)) (now («predicate_table» .entry))) pc) r (now (value .exit)) (machineOf (now (registers .entry)) (now (control .exit)) (now («register_table» .entry)) (now («predicate_table» .entry))) ⌝ }
+{
+    let state = state_of(control);
+    set_control(
+        registers,
+        control,
+        register_table,
+        predicate_table,
+        true,
+        pc,
+        state,
+        0,
+        value,
+    )
+}
+
+#[no_mangle]
+pub extern "C" fn simplev_set_register<'a>(
+    registers: &mut [u64; 128],
+    control: &'a [u64; 6],
+    register_table: &'a [u16; 16],
+    predicate_table: &'a [u16; 16],
+    index: u32,
+    value_in: u64,
+    value: &mut u64,
+) -> u32
+    ensures { λ r. ⌜ Replies (setRegister (machineOf (now (registers .entry)) (now (control .entry)) (now («register_table» .entry)) (now («predicate_table» .entry))) index «value_in») r (now (value .exit)) (machineOf (now (registers .exit)) (now (control .entry)) (now («register_table» .entry)) (now («predicate_table» .entry))) ⌝ }
+{
+    let verdict = judged(
+        registers,
+        control,
+        register_table,
+        predicate_table,
+        (index as usize) < Machine::REGISTERS,
+        true,
+    );
+    if !verdict.accepts() {
+        return tell(verdict, value);
+    }
+    registers::write(registers, index as usize, value_in);
+    tell(Answer::Done(0), value)
+}
+
+#[no_mangle]
+pub extern "C" fn simplev_set_register_entry<'a>(
+    registers: &'a [u64; 128],
+    control: &'a [u64; 6],
+    register_table: &mut [u16; 16],
+    predicate_table: &'a [u16; 16],
+    index: u32,
+    entry: u16,
+    value: &mut u64,
+) -> u32
+    ensures { λ r. ⌜ Replies (setRegisterEntry (machineOf (now (registers .entry)) (now (control .entry)) (now («register_table» .entry)) (now («predicate_table» .entry))) index entry) r (now (value .exit)) (machineOf (now (registers .entry)) (now (control .entry)) (now («register_table» .exit)) (now («predicate_table» .entry))) ⌝ }
+{
+    let verdict = judged(
+        registers,
+        control,
+        register_table,
+        predicate_table,
+        (index as usize) < Machine::ENTRIES,
+        true,
+    );
+    if !verdict.accepts() {
+        return tell(verdict, value);
+    }
+    put_entry(register_table, index, entry);
+    tell(Answer::Done(0), value)
+}
+
+#[no_mangle]
+pub extern "C" fn simplev_set_predicate_entry<'a>(
+    registers: &'a [u64; 128],
+    control: &'a [u64; 6],
+    register_table: &'a [u16; 16],
+    predicate_table: &mut [u16; 16],
+    index: u32,
+    entry: u16,
+    value: &mut u64,
+) -> u32
+    ensures { λ r. ⌜ Replies (setPredicateEntry (machineOf (now (registers .entry)) (now (control .entry)) (now («register_table» .entry)) (now («predicate_table» .entry))) index entry) r (now (value .exit)) (machineOf (now (registers .entry)) (now (control .entry)) (now («register_table» .entry)) (now («predicate_table» .exit))) ⌝ }
+{
+    let verdict = judged(
+        registers,
+        control,
+        register_table,
+        predicate_table,
+        (index as usize) < Machine::ENTRIES,
+        !(entry % 2 == 1),
+    );
+    if !verdict.accepts() {
+        return tell(verdict, value);
+    }
+    put_entry(predicate_table, index, entry);
+    tell(Answer::Done(0), value)
+}

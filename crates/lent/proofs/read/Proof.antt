@@ -1,0 +1,11 @@
+use borrow.Author.Needs.{needs}
+use Rattle.machine.specs.Reading.{told}
+use Rattle.lent.proofs.read.Statement.{statement}
+use Rattle.lent.proofs.read.Tie as tie
+
+returns : tie.Need-returns
+unfolding told
+returns c = c .read-at .ensures
+
+pub read-spec : {M : Type 1} → statement M
+read-spec = tie.close (tie.spec (λ c κs. search needs) returns)
