@@ -2,10 +2,14 @@
 ghost use Rattle.machine.specs.Reading.{readVl, readMvl, readCfg, readPc, readStateWord, readRegister, readRegisterEntry, readPredicateEntry};
 ghost use Rattle.lent.specs.Layout.{machineOf};
 ghost use Rattle.lent.specs.Leaves.{Replies};
-use lent::entry_at;
-use lent::read;
-use lent::read_at;
-use lent::register_at;
+use lent::CFG;
+use lent::MVL;
+use lent::PC;
+use lent::VL;
+use lent::reading::read;
+use lent::reading::read_at;
+use lent::reading::read_entry;
+use lent::reading::register_at;
 use lent::state_of;
 use machine::Machine;
 
@@ -24,7 +28,7 @@ pub extern "C" fn simplev_read_vl<'a>(
         control,
         register_table,
         predicate_table,
-        control[2],
+        control[VL],
         value,
     )
 }
@@ -44,7 +48,7 @@ pub extern "C" fn simplev_read_mvl<'a>(
         control,
         register_table,
         predicate_table,
-        control[1],
+        control[MVL],
         value,
     )
 }
@@ -64,7 +68,7 @@ pub extern "C" fn simplev_read_cfg<'a>(
         control,
         register_table,
         predicate_table,
-        control[3],
+        control[CFG],
         value,
     )
 }
@@ -84,7 +88,7 @@ pub extern "C" fn simplev_read_pc<'a>(
         control,
         register_table,
         predicate_table,
-        control[0],
+        control[PC],
         value,
     )
 }
@@ -144,14 +148,13 @@ pub extern "C" fn simplev_read_register_entry<'a>(
 ) -> u32
     ensures { λ r. ⌜ Replies (readRegisterEntry (machineOf (now (registers .entry)) (now (control .entry)) (now («register_table» .entry)) (now («predicate_table» .entry))) index) r (now (value .exit)) (machineOf (now (registers .entry)) (now (control .entry)) (now («register_table» .entry)) (now («predicate_table» .entry))) ⌝ }
 {
-    let entry = entry_at(register_table, index);
-    read_at(
+    read_entry(
         registers,
         control,
         register_table,
         predicate_table,
-        (index as usize) < Machine::ENTRIES,
-        entry as u64,
+        register_table,
+        index,
         value,
     )
 }
@@ -167,14 +170,13 @@ pub extern "C" fn simplev_read_predicate_entry<'a>(
 ) -> u32
     ensures { λ r. ⌜ Replies (readPredicateEntry (machineOf (now (registers .entry)) (now (control .entry)) (now («register_table» .entry)) (now («predicate_table» .entry))) index) r (now (value .exit)) (machineOf (now (registers .entry)) (now (control .entry)) (now («register_table» .entry)) (now («predicate_table» .entry))) ⌝ }
 {
-    let entry = entry_at(predicate_table, index);
-    read_at(
+    read_entry(
         registers,
         control,
         register_table,
         predicate_table,
-        (index as usize) < Machine::ENTRIES,
-        entry as u64,
+        predicate_table,
+        index,
         value,
     )
 }

@@ -5,6 +5,10 @@ ghost use Rattle.machine.specs.Run.{system, run, step};
 ghost use Rattle.lent.specs.Layout.{machineOf};
 ghost use Rattle.lent.specs.Leaves.{Leaves};
 use answers::Answer;
+use lent::CFG;
+use lent::MVL;
+use lent::PC;
+use lent::VL;
 use lent::in_shape;
 use lent::state_of;
 use lent::tell;
@@ -44,7 +48,7 @@ pub extern "C" fn simplev_run<'a>(
     }
     let state = state_of(control);
     let position = Position {
-        pc: control[0],
+        pc: control[PC],
         source: state.source,
         destination: state.destination,
     };
@@ -62,9 +66,9 @@ pub extern "C" fn simplev_run<'a>(
     let after = ran.position;
     *control = [
         after.pc,
-        control[1],
-        control[2],
-        control[3],
+        control[MVL],
+        control[VL],
+        control[CFG],
         after.source as u64,
         after.destination as u64,
     ];

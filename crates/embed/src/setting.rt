@@ -3,9 +3,11 @@ ghost use Rattle.machine.specs.Setting.{setVl, setVlImmediate, setMvl, setCfg, 
 ghost use Rattle.lent.specs.Layout.{machineOf};
 ghost use Rattle.lent.specs.Leaves.{Replies};
 use answers::Answer;
+use lent::PC;
 use lent::judged;
-use lent::put_entry;
-use lent::set_control;
+use lent::setting::put_entry;
+use lent::setting::set_control;
+use lent::setting::set_vl;
 use lent::state_of;
 use lent::tell;
 use machine::Machine;
@@ -23,18 +25,13 @@ pub extern "C" fn simplev_set_vl<'a>(
 ) -> u32
     ensures { λ r. ⌜ Replies (setVl (machineOf (now (registers .entry)) (now (control .entry)) (now («register_table» .entry)) (now («predicate_table» .entry))) n) r (now (value .exit)) (machineOf (now (registers .entry)) (now (control .exit)) (now («register_table» .entry)) (now («predicate_table» .entry))) ⌝ }
 {
-    let pc = control[0];
-    let old = state_of(control);
-    let state = old.with_vl(n);
-    set_control(
+    set_vl(
         registers,
         control,
         register_table,
         predicate_table,
         1 <= n,
-        pc,
-        state,
-        state.vl as u64,
+        n,
         value,
     )
 }
@@ -50,18 +47,13 @@ pub extern "C" fn simplev_set_vl_immediate<'a>(
 ) -> u32
     ensures { λ r. ⌜ Replies (setVlImmediate (machineOf (now (registers .entry)) (now (control .entry)) (now («register_table» .entry)) (now («predicate_table» .entry))) n) r (now (value .exit)) (machineOf (now (registers .entry)) (now (control .exit)) (now («register_table» .entry)) (now («predicate_table» .entry))) ⌝ }
 {
-    let pc = control[0];
-    let old = state_of(control);
-    let state = old.with_vl(n as u64 + 1);
-    set_control(
+    set_vl(
         registers,
         control,
         register_table,
         predicate_table,
         n <= 31,
-        pc,
-        state,
-        state.vl as u64,
+        n as u64 + 1,
         value,
     )
 }
@@ -77,7 +69,7 @@ pub extern "C" fn simplev_set_mvl<'a>(
 ) -> u32
     ensures { λ r. ⌜ Replies (setMvl (machineOf (now (registers .entry)) (now (control .entry)) (now («register_table» .entry)) (now («predicate_table» .entry))) n) r (now (value .exit)) (machineOf (now (registers .entry)) (now (control .exit)) (now («register_table» .entry)) (now («predicate_table» .entry))) ⌝ }
 {
-    let pc = control[0];
+    let pc = control[PC];
     let old = state_of(control);
     let state = old.with_mvl(n);
     set_control(
@@ -104,7 +96,7 @@ pub extern "C" fn simplev_set_cfg<'a>(
 ) -> u32
     ensures { λ r. ⌜ Replies (setCfg (machineOf (now (registers .entry)) (now (control .entry)) (now («register_table» .entry)) (now («predicate_table» .entry))) n) r (now (value .exit)) (machineOf (now (registers .entry)) (now (control .exit)) (now («register_table» .entry)) (now («predicate_table» .entry))) ⌝ }
 {
-    let pc = control[0];
+    let pc = control[PC];
     let mut state = state_of(control);
     state.cfg = n;
     set_control(
@@ -131,7 +123,7 @@ pub extern "C" fn simplev_set_state_word<'a>(
 ) -> u32
     ensures { λ r. ⌜ Replies (setStateWord (machineOf (now (registers .entry)) (now (control .entry)) (now («register_table» .entry)) (now («predicate_table» .entry))) word) r (now (value .exit)) (machineOf (now (registers .entry)) (now (control .exit)) (now («register_table» .entry)) (now («predicate_table» .entry))) ⌝ }
 {
-    let pc = control[0];
+    let pc = control[PC];
     let state = State::of_word(word).cut();
     set_control(
         registers,

@@ -2,8 +2,8 @@ use mathlib.Core.Path.{refl}
 use borrow.Author.Needs.{needs}
 use Rattle.machine.proofs.Laws.{fails, holds}
 use Rattle.lent.proofs.Leaves.{replies-refused, replies-accepted}
-use Rattle.lent.proofs.read_at.Statement.{statement}
-use Rattle.lent.proofs.read_at.Tie as tie
+use Rattle.lent.proofs.reading.read_at.Statement.{statement}
+use Rattle.lent.proofs.reading.read_at.Tie as tie
 
 returns : tie.Need-returns
 returns c =

@@ -1,7 +1,7 @@
 use borrow.Author.Needs.{needs}
 use Rattle.machine.specs.Reading.{told}
-use Rattle.lent.proofs.read.Statement.{statement}
-use Rattle.lent.proofs.read.Tie as tie
+use Rattle.lent.proofs.reading.read.Statement.{statement}
+use Rattle.lent.proofs.reading.read.Tie as tie
 
 returns : tie.Need-returns
 unfolding told

@@ -2,8 +2,8 @@ use mathlib.Core.Path.{refl}
 use borrow.Author.Needs.{needs}
 use Rattle.machine.proofs.Laws.{fails, holds}
 use Rattle.lent.proofs.Leaves.{replies-refused, replies-accepted}
-use Rattle.lent.proofs.set_control.Statement.{statement}
-use Rattle.lent.proofs.set_control.Tie as tie
+use Rattle.lent.proofs.setting.set_control.Statement.{statement}
+use Rattle.lent.proofs.setting.set_control.Tie as tie
 
 returns : tie.Need-returns
 returns c =
