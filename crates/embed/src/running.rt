@@ -14,6 +14,7 @@ use lent::state_of;
 use lent::tell;
 use walk::position::Position;
 
+// MVL 1, VL 1, CFG 24 and all else zero.
 #[no_mangle]
 pub extern "C" fn simplev_fresh(
     registers: &mut [u64; 128],

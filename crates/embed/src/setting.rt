@@ -14,6 +14,7 @@ use machine::Machine;
 use tables::state::State;
 use tables::state::good_word;
 
+// Plain form: n from 1.
 #[no_mangle]
 pub extern "C" fn simplev_set_vl<'a>(
     registers: &'a [u64; 128],
@@ -36,6 +37,7 @@ pub extern "C" fn simplev_set_vl<'a>(
     )
 }
 
+// Immediate form: n from 0 to 31 stands for n + 1.
 #[no_mangle]
 pub extern "C" fn simplev_set_vl_immediate<'a>(
     registers: &'a [u64; 128],
@@ -58,6 +60,7 @@ pub extern "C" fn simplev_set_vl_immediate<'a>(
     )
 }
 
+// VL is cut to the new MVL, and both offsets become 0.
 #[no_mangle]
 pub extern "C" fn simplev_set_mvl<'a>(
     registers: &'a [u64; 128],
@@ -85,6 +88,7 @@ pub extern "C" fn simplev_set_mvl<'a>(
     )
 }
 
+// 0 to 31.
 #[no_mangle]
 pub extern "C" fn simplev_set_cfg<'a>(
     registers: &'a [u64; 128],
@@ -112,6 +116,7 @@ pub extern "C" fn simplev_set_cfg<'a>(
     )
 }
 
+// MVL, VL cut to it, offsets and CFG in one word.
 #[no_mangle]
 pub extern "C" fn simplev_set_state_word<'a>(
     registers: &'a [u64; 128],
@@ -138,6 +143,7 @@ pub extern "C" fn simplev_set_state_word<'a>(
     )
 }
 
+// Every program counter is good.
 #[no_mangle]
 pub extern "C" fn simplev_set_pc<'a>(
     registers: &'a [u64; 128],
@@ -163,6 +169,7 @@ pub extern "C" fn simplev_set_pc<'a>(
     )
 }
 
+// A write to register 0 is accepted, and vanishes.
 #[no_mangle]
 pub extern "C" fn simplev_set_register<'a>(
     registers: &mut [u64; 128],
@@ -190,6 +197,7 @@ pub extern "C" fn simplev_set_register<'a>(
     tell(Answer::Done(0), value)
 }
 
+// Every entry is good.
 #[no_mangle]
 pub extern "C" fn simplev_set_register_entry<'a>(
     registers: &'a [u64; 128],
@@ -217,6 +225,7 @@ pub extern "C" fn simplev_set_register_entry<'a>(
     tell(Answer::Done(0), value)
 }
 
+// An entry with bit 0 set is a bad value.
 #[no_mangle]
 pub extern "C" fn simplev_set_predicate_entry<'a>(
     registers: &'a [u64; 128],
