@@ -6,6 +6,7 @@ pub mod decode;
 pub mod machine;
 pub mod memory;
 pub mod operation;
+pub mod premise;
 pub mod scalar;
 pub mod state_word;
 pub mod tables;
