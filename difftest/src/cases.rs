@@ -41,7 +41,7 @@ fn allowance(random: &mut Random, vl: u64) -> u16 {
 }
 
 fn run_or_step(random: &mut Random, word: u32, vl: u64) -> Call {
-    if random.percent(10) {
+    if random.percent(30) {
         Call::Step { word }
     } else {
         Call::Run { word, allowance: allowance(random, vl) }

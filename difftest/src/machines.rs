@@ -10,7 +10,7 @@ const EDGES: [u64; 10] =
 /// A machine that is mostly in shape.
 pub fn any(random: &mut Random, word: u32, size: usize) -> Machine {
     let mut machine = in_shape(random, word, size);
-    if random.percent(7) {
+    if random.percent(10) {
         spoil(random, &mut machine);
     }
     machine
@@ -129,17 +129,29 @@ fn register_table(random: &mut Random, machine: &mut Machine, word: u32, starts:
         }
     }
     for key in keys(word) {
-        if random.percent(60) {
+        if random.percent(70) {
             let entry = register_entry(random, machine.vl, key, starts);
             machine.register_table[index(random, machine)] = entry;
         }
     }
+    if random.percent(15) && machine.vl > 1 {
+        let key = random.pick(&keys(word));
+        let entry = past_registers(random, machine.vl, key);
+        machine.register_table[index(random, machine)] = entry;
+    }
+}
+
+/// A vector that ends above the last register.
+fn past_registers(random: &mut Random, vl: u64, key: u16) -> u16 {
+    let first = 129 - vl;
+    let start = if random.percent(50) { first } else { random.between(first, 127) };
+    0x8080 | (start as u16) << 8 | key
 }
 
 pub fn register_entry(random: &mut Random, vl: u64, key: u16, starts: [u64; 2]) -> u16 {
     let near = random.pick(&starts) + random.below(4);
-    let start = if random.percent(50) { near } else { random.below(128) };
-    let start = if random.percent(93) { start.min(128 - vl) } else { start.min(127) };
+    let start = if random.percent(60) { near } else { random.below(128) };
+    let start = if random.percent(97) { start.min(128 - vl) } else { start.min(127) };
     let width = if random.percent(97) { 0 } else { random.below(4) as u16 };
     bit(random, 65, 15) | (start as u16) << 8 | bit(random, 94, 7) | width << 5 | key
 }
@@ -194,7 +206,7 @@ fn mask(random: &mut Random, vl: u64) -> u64 {
 
 /// Breaks one of the rules that answer 6 looks at.
 pub fn spoil(random: &mut Random, machine: &mut Machine) {
-    match random.below(10) {
+    match random.below(13) {
         0 => machine.mvl = 0,
         1 => machine.mvl = above(random, 64),
         2 => machine.vl = 0,

@@ -13,6 +13,7 @@ mod words;
 
 use coverage::Coverage;
 use pair::Bench;
+use std::panic::{self, AssertUnwindSafe};
 use std::process::ExitCode;
 
 const USAGE: &str = "usage: difftest [--seed S] [--cases N] [--coverage]
@@ -48,6 +49,16 @@ fn options() -> Option<Options> {
     Some(options)
 }
 
+/// What was wrong with a case; an index out of range in the model is reported like a difference.
+fn one_case(bench: &mut Bench, seed: u64, number: u64) -> Result<(), String> {
+    let caught = panic::catch_unwind(AssertUnwindSafe(|| cases::case(bench, seed, number)));
+    match caught {
+        Ok(Ok(())) => Ok(()),
+        Ok(Err(difference)) => Err(difference.0),
+        Err(_) => Err("the model panicked".to_string()),
+    }
+}
+
 fn compare(options: &Options) -> Result<Coverage, String> {
     let mut bench = Bench { coverage: Coverage::new(), trace: options.case.is_some() };
     let numbers = match options.case {
@@ -55,12 +66,9 @@ fn compare(options: &Options) -> Result<Coverage, String> {
         None => 0..options.cases,
     };
     for number in numbers {
-        if let Err(difference) = cases::case(&mut bench, options.seed, number) {
-            let again = format!("difftest --seed {} --case {number}", options.seed);
-            return Err(format!(
-                "difference in case {number} of seed {}: {}again: {again}",
-                options.seed, difference.0
-            ));
+        if let Err(text) = one_case(&mut bench, options.seed, number) {
+            let seed = options.seed;
+            return Err(format!("case {number} of seed {seed}: {text}\nagain: difftest --seed {seed} --case {number}"));
         }
     }
     Ok(bench.coverage)

@@ -58,15 +58,15 @@ fn wide(random: &mut Random) -> u64 {
     }
 }
 
-/// A state word whose fields mostly fit together.
+/// A state word whose fields mostly fit together, or in which an offset fits VL before it is cut to MVL and not after.
 fn state_word(random: &mut Random) -> u32 {
-    if random.percent(15) {
+    if random.percent(10) {
         return random.word() as u32;
     }
     let mvl = random.below(64);
-    let vl = if random.percent(80) { random.below(mvl + 1) } else { random.below(64) };
-    let bound = if random.percent(80) { vl.min(mvl) + 1 } else { 64 };
-    let (source, destination) = (random.below(bound), random.below(bound));
+    let vl = if random.percent(60) { random.below(mvl + 1) } else { random.between(mvl, 63) };
+    let bound = if random.percent(75) { vl.min(mvl) } else { vl };
+    let (source, destination) = (random.below(bound + 1), random.below(bound + 1));
     let upper = if random.percent(8) { random.below(8) } else { 0 };
     (mvl | vl << 6 | source << 12 | destination << 18 | random.below(32) << 24 | upper << 29) as u32
 }
