@@ -68,6 +68,7 @@ fn compare(options: &Options) -> Result<Coverage, String> {
     for number in numbers {
         if let Err(text) = one_case(&mut bench, options.seed, number) {
             let seed = options.seed;
+            let text = text.trim_end();
             return Err(format!("case {number} of seed {seed}: {text}\nagain: difftest --seed {seed} --case {number}"));
         }
     }
