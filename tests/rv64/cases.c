@@ -1,0 +1,209 @@
+/* usage: cases COUNT SEED
+ * Random cases on the library. Each line is a case: the answers of its calls, and a hash of the machine, the memory and
+ * what the calls returned. Two builds of the library print the same lines if they do the same. */
+#include <inttypes.h>
+#include <stdio.h>
+#include <stdlib.h>
+#include <string.h>
+
+#include "simplev.h"
+
+#define MEMORY 512
+
+static uint64_t state;
+
+static uint64_t any(void) /* xorshift64* */
+{
+    state ^= state >> 12;
+    state ^= state << 25;
+    state ^= state >> 27;
+    return state * 0x2545F4914F6CDD1DULL;
+}
+
+static uint64_t below(uint64_t bound)
+{
+    return (any() >> 11) % bound;
+}
+
+static int percent(unsigned chance)
+{
+    return below(100) < chance;
+}
+
+static uint64_t hash;
+
+static void take(const void *from, size_t size)
+{
+    const unsigned char *bytes = from;
+    for (size_t i = 0; i < size; i++)
+        hash = (hash ^ bytes[i]) * 0x100000001B3ULL; /* FNV-1a */
+}
+
+/* Words with all fields but the registers and the immediate: each opcode with its functions. */
+static uint32_t word(void)
+{
+    static const uint32_t forms[] = {
+        0x00000033, 0x40000033, 0x00001033, 0x00002033, 0x00003033, 0x00004033, 0x00005033, 0x40005033, /* OP */
+        0x00006033, 0x00007033, 0x0000003B, 0x4000003B, 0x0000103B, 0x0000503B, 0x4000503B,             /* OP-32 */
+        0x00001013, 0x00005013, 0x40005013, 0x0000101B, 0x0000501B, 0x4000501B,                         /* shifts */
+    };
+    static const uint32_t immediate_forms[] = {
+        0x00000013, 0x00002013, 0x00003013, 0x00004013, 0x00006013, 0x00007013, 0x0000001B, /* OP-IMM */
+        0x00000003, 0x00001003, 0x00002003, 0x00003003, 0x00004003, 0x00005003, 0x00006003, /* LOAD */
+        0x00000023, 0x00001023, 0x00002023, 0x00003023,                                     /* STORE */
+    };
+    uint32_t registers = any() & 0x000F8F80; /* rd and rs1 */
+    switch (below(8)) {
+    case 0:
+        return any();
+    case 1:
+        return 0x8002 | (any() & 0xFFFF0FFC);
+    case 2:
+    case 3:
+    case 4:
+        return forms[below(sizeof forms / sizeof *forms)] | registers | (any() & 0x01F00000);
+    default: /* an immediate of 0 to 31 in most words, of any value in some */
+        return immediate_forms[below(sizeof immediate_forms / sizeof *immediate_forms)] | registers |
+               (any() & (percent(80) ? 0x01F00000 : 0xFFF00000));
+    }
+}
+
+static uint64_t value(void)
+{
+    switch (below(4)) {
+    case 0:
+        return any();
+    case 1:
+        return any() | any();
+    case 2:
+        return (uint64_t)(int64_t)(int32_t)any();
+    default:
+        return below(MEMORY);
+    }
+}
+
+/* A register number that the word names. */
+static unsigned key(uint32_t w)
+{
+    static const unsigned places[] = {7, 15, 20, 2};
+    return w >> places[below(4)] & 31;
+}
+
+static void fill(struct simplev_machine *m, uint32_t w)
+{
+    simplev_machine_fresh(m);
+    for (int i = 1; i < SIMPLEV_REGISTERS; i++)
+        m->registers[i] = percent(60) ? below(MEMORY) : value();
+    m->control[SIMPLEV_PC] = any();
+    m->control[SIMPLEV_MVL] = 1 + below(64);
+    m->control[SIMPLEV_VL] = 1 + below(m->control[SIMPLEV_MVL]);
+    m->control[SIMPLEV_CFG] = percent(60) ? 24 : below(32);
+    if (percent(30)) {
+        m->control[SIMPLEV_SOURCE] = below(m->control[SIMPLEV_VL]);
+        m->control[SIMPLEV_DESTINATION] = below(m->control[SIMPLEV_VL]);
+    }
+    for (int i = 0; i < SIMPLEV_ENTRIES; i++) {
+        unsigned start = below(percent(95) ? 129 - m->control[SIMPLEV_VL] : 128);
+        if (percent(30))
+            m->register_table[i] = below(2) << 15 | start << 8 | 0x80 | (percent(3) ? 0x20 : 0) | key(w);
+        if (percent(20))
+            m->predicate_table[i] = key(w) << 11 | below(4) << 9 | 0x100 | below(128) << 1;
+    }
+    if (percent(4)) /* out of shape, most times */
+        m->control[1 + below(5)] ^= 1ULL << below(64);
+}
+
+static uint32_t setting(struct simplev_machine *m, uint64_t *out)
+{
+    switch (below(9)) {
+    case 0:
+        return simplev_machine_set_vl(m, below(70), out);
+    case 1:
+        return simplev_machine_set_vl_immediate(m, below(34), out);
+    case 2:
+        return simplev_machine_set_mvl(m, below(67), out);
+    case 3:
+        return simplev_machine_set_cfg(m, below(34), out);
+    case 4:
+        return simplev_machine_set_state_word(m, any() & 0x3F0C3FFF, out);
+    case 5:
+        return simplev_machine_set_pc(m, any(), out);
+    case 6:
+        return simplev_machine_set_register(m, below(140), any(), out);
+    case 7:
+        return simplev_machine_set_register_entry(m, below(18), any(), out);
+    default:
+        return simplev_machine_set_predicate_entry(m, below(18), any(), out);
+    }
+}
+
+static uint32_t reading(struct simplev_machine *m, uint64_t *out)
+{
+    switch (below(8)) {
+    case 0:
+        return simplev_machine_read_vl(m, out);
+    case 1:
+        return simplev_machine_read_mvl(m, out);
+    case 2:
+        return simplev_machine_read_cfg(m, out);
+    case 3:
+        return simplev_machine_read_pc(m, out);
+    case 4:
+        return simplev_machine_read_state_word(m, out);
+    case 5:
+        return simplev_machine_read_register(m, below(140), out);
+    case 6:
+        return simplev_machine_read_register_entry(m, below(18), out);
+    default:
+        return simplev_machine_read_predicate_entry(m, below(18), out);
+    }
+}
+
+static void called(uint32_t said, uint64_t out)
+{
+    printf("%" PRIu32 " ", said);
+    take(&said, sizeof said);
+    take(&out, sizeof out);
+}
+
+/* A run, called again while it pauses, then a setting, a reading and a step. */
+static void one_case(void)
+{
+    static struct simplev_machine m;
+    static uint8_t memory[MEMORY];
+    uint32_t w = word(), said;
+    uint64_t out;
+    size_t size = percent(70) ? MEMORY : below(MEMORY + 1);
+    fill(&m, w);
+    for (size_t i = 0; i < MEMORY; i++)
+        memory[i] = any();
+    hash = 0xCBF29CE484222325ULL;
+    for (int i = 0; i < 4; i++) {
+        out = any();
+        said = simplev_machine_run(&m, w, percent(50) ? 65535 : below(20), memory, size, &out);
+        called(said, out);
+        if (said != SIMPLEV_PAUSED)
+            break;
+    }
+    said = setting(&m, &out);
+    called(said, out);
+    said = reading(&m, &out);
+    called(said, out);
+    said = simplev_machine_step(&m, w, memory, size, &out);
+    called(said, out);
+    take(&m, sizeof m);
+    take(memory, sizeof memory);
+    printf("%016" PRIx64 "\n", hash);
+}
+
+int main(int count, char **words)
+{
+    if (count != 3) {
+        fprintf(stderr, "usage: cases COUNT SEED\n");
+        return 2;
+    }
+    state = strtoull(words[2], NULL, 10) * 2 + 1;
+    for (unsigned long i = strtoul(words[1], NULL, 10); i > 0; i--)
+        one_case();
+    return 0;
+}
