@@ -1,6 +1,6 @@
 //! One random case: a run, a list of cuts, or a row of calls of every sort.
 
-use crate::coverage::situation;
+use crate::coverage::lists;
 use crate::dump;
 use crate::machines;
 use crate::pair::{Bench, Difference, Pair};
@@ -95,10 +95,10 @@ fn list(bench: &mut Bench, random: &mut Random) -> Result<(), Difference> {
         }
     }
     if !matches!(outcome.answer, answer::DONE | answer::PAUSED) {
-        bench.coverage.saw(situation::LIST_REFUSED);
+        bench.coverage.saw(lists::ENDED);
     }
     if premise::holds(&start, word) {
-        bench.coverage.saw(situation::ONE_CALL);
+        bench.coverage.saw(lists::ONE_CALL);
         let sum = allowances.iter().sum();
         let mut whole = Pair::new(&start, &memory);
         let said = whole.call(bench, &Call::Run { word, allowance: sum })?;
@@ -119,7 +119,7 @@ fn same_end(cut: (&Pair, Outcome), whole: (&Pair, Outcome), allowances: &[u16]) 
 /// Every register, the program counter, both tables and the state word, read by calls and set by calls in another
 /// machine in shape.
 fn copied(bench: &mut Bench, random: &mut Random, mut from: Pair, word: u32) -> Result<Pair, Difference> {
-    bench.coverage.saw(situation::COPY);
+    bench.coverage.saw(lists::COPY);
     let host: Machine = machines::in_shape(random, word, from.memory.len());
     let mut to = Pair::new(&host, &from.memory);
     let state = from.call(bench, &Call::ReadStateWord)?.value;

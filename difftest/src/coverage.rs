@@ -5,6 +5,7 @@ use difftest::decode::{decode, Instruction};
 use difftest::machine::Machine;
 use difftest::premise;
 use difftest::tables::{mask, operand, predicate_entry, Operand};
+use std::collections::BTreeMap;
 use std::fmt::Write;
 
 /// Each call, and the answers that it can give.
@@ -39,39 +40,21 @@ const ROWS: [(&str, &[usize]); 28] = [
     ("read predicate entry", &[0, 6, 8]),
 ];
 
-const SITUATIONS: [&str; 19] = [
-    "operation that writes a masked element as zero",
-    "operation with a scalar destination and a mask",
-    "transfer with zeroing set",
-    "transfer on which both sides walk",
-    "transfer that skips",
-    "transfer that ends with nothing done",
-    "fault after an element of the same call",
-    "fault at an address near 2^64",
-    "mask register 0",
-    "inverted mask",
-    "mask among the registers written",
-    "redirected scalar",
-    "two vectors that overlap",
-    "start at an offset",
-    "pause",
-    "program counter that wraps",
-    "list of allowances compared with one call",
-    "list that a refusal or fault ends",
-    "copy through another machine",
-];
-
-pub mod situation {
-    pub const ONE_CALL: usize = 16;
-    pub const LIST_REFUSED: usize = 17;
-    pub const COPY: usize = 18;
+/// Situations of lists, which no single call shows.
+pub mod lists {
+    pub const ONE_CALL: &str = "list of allowances compared with one call";
+    pub const ENDED: &str = "list that a refusal or fault ends";
+    pub const COPY: &str = "copy through another machine";
 }
+
+/// A situation, and whether a call was in it.
+type Seen = (&'static str, bool);
 
 pub struct Coverage {
     pub calls: u64,
     pub answers: [u64; 9],
     rows: [[u64; 9]; ROWS.len()],
-    situations: [u64; SITUATIONS.len()],
+    situations: BTreeMap<&'static str, u64>,
     cfg: [u64; 32],
     vl: [u64; 65],
     mvl: [u64; 65],
@@ -94,7 +77,7 @@ impl Coverage {
             calls: 0,
             answers: [0; 9],
             rows: [[0; 9]; ROWS.len()],
-            situations: [0; SITUATIONS.len()],
+            situations: [lists::ONE_CALL, lists::ENDED, lists::COPY].map(|name| (name, 0)).into(),
             cfg: [0; 32],
             vl: [0; 65],
             mvl: [0; 65],
@@ -113,21 +96,24 @@ impl Coverage {
             self.mvl[made.before.mvl as usize] += 1;
             self.sizes[made.size.min(101)] += 1;
             let instruction = decode(word).expect("a served word");
-            self.count_situations(made, &instruction);
+            self.add(&operand_situations(made, &instruction));
+            self.add(&match instruction {
+                Instruction::Operation(_) => operation_situations(made, &instruction),
+                _ => transfer_situations(made, &instruction),
+            });
+        }
+        if answer == 6 {
+            self.add(&shape_situations(made.before));
         }
     }
 
-    pub fn saw(&mut self, situation: usize) {
-        self.situations[situation] += 1;
+    pub fn saw(&mut self, situation: &'static str) {
+        self.add(&[(situation, true)]);
     }
 
-    fn count_situations(&mut self, made: &Made, instruction: &Instruction) {
-        let seen = match instruction {
-            Instruction::Operation(_) => operation_situations(made, instruction),
-            _ => transfer_situations(made, instruction),
-        };
-        for (index, yes) in seen.into_iter().chain(common_situations(made, instruction)) {
-            self.situations[index] += u64::from(yes);
+    fn add(&mut self, seen: &[Seen]) {
+        for &(name, yes) in seen {
+            *self.situations.entry(name).or_insert(0) += u64::from(yes);
         }
     }
 
@@ -144,9 +130,7 @@ impl Coverage {
                 missing.push(format!("{name} with answer {answer}"));
             }
         }
-        for (name, _) in SITUATIONS.iter().zip(&self.situations).filter(|(_, &count)| count == 0) {
-            missing.push(name.to_string());
-        }
+        missing.extend(self.situations.iter().filter(|(_, &count)| count == 0).map(|(name, _)| name.to_string()));
         missing.extend(unseen("CFG", &self.cfg, 0));
         missing.extend(unseen("VL", &self.vl, 1));
         missing.extend(unseen("MVL", &self.mvl, 1));
@@ -161,7 +145,7 @@ impl Coverage {
         for ((name, _), counts) in ROWS.iter().zip(&self.rows) {
             let _ = writeln!(text, "{name:22} {}", columns(counts));
         }
-        for (name, count) in SITUATIONS.iter().zip(&self.situations) {
+        for (name, count) in &self.situations {
             let _ = writeln!(text, "{name:48} {count:9}");
         }
         text
@@ -218,14 +202,14 @@ fn row(call: &Call) -> usize {
     }
 }
 
-fn operation_situations(made: &Made, instruction: &Instruction) -> Vec<(usize, bool)> {
+fn operation_situations(made: &Made, instruction: &Instruction) -> Vec<Seen> {
     let rd = instruction.written().expect("an operation writes a register");
     let mask = mask(made.before, rd);
     let masked = predicate_entry(made.before, rd).is_some();
     let ran = made.after != made.before;
     vec![
-        (0, ran && mask.zeroing && !mask.on(made.before.destination)),
-        (1, ran && masked && !operand(made.before, rd).is_vector()),
+        ("operation that writes a masked element as zero", ran && mask.zeroing && !mask.on(made.before.destination)),
+        ("operation with a scalar destination and a mask", ran && masked && !operand(made.before, rd).is_vector()),
     ]
 }
 
@@ -240,7 +224,7 @@ fn sides(machine: &Machine, instruction: &Instruction) -> [(u32, bool); 2] {
     }
 }
 
-fn transfer_situations(made: &Made, instruction: &Instruction) -> Vec<(usize, bool)> {
+fn transfer_situations(made: &Made, instruction: &Instruction) -> Vec<Seen> {
     let sides = sides(made.before, instruction);
     let offsets = [made.before.source, made.before.destination];
     let ran = made.after != made.before;
@@ -248,16 +232,16 @@ fn transfer_situations(made: &Made, instruction: &Instruction) -> Vec<(usize, bo
     let fault = made.outcome.answer == 5;
     let off = |i: usize| sides[i].1 && !mask(made.before, sides[i].0).on(offsets[i]);
     vec![
-        (2, ran && sides.iter().any(|&(key, walks)| walks && mask(made.before, key).zeroing)),
-        (3, ran && sides[0].1 && sides[1].1),
-        (4, ran && (off(0) || off(1))),
-        (5, ran && made.outcome.answer == 0 && kept),
-        (6, fault && !kept),
-        (7, fault && made.outcome.value > u64::MAX - 8),
+        ("transfer with zeroing set", ran && sides.iter().any(|&(key, walks)| walks && mask(made.before, key).zeroing)),
+        ("transfer on which both sides walk", ran && sides[0].1 && sides[1].1),
+        ("transfer that skips", ran && (off(0) || off(1))),
+        ("transfer that ends with nothing done", ran && made.outcome.answer == 0 && kept),
+        ("fault after an element of the same call", fault && !kept),
+        ("fault at an address near 2^64", fault && made.outcome.value > u64::MAX - 8),
     ]
 }
 
-fn common_situations(made: &Made, instruction: &Instruction) -> Vec<(usize, bool)> {
+fn operand_situations(made: &Made, instruction: &Instruction) -> Vec<Seen> {
     let named = instruction.named();
     let entries: Vec<u16> = named.iter().filter_map(|&key| predicate_entry(made.before, key)).collect();
     let vectors: Vec<usize> =
@@ -267,13 +251,36 @@ fn common_situations(made: &Made, instruction: &Instruction) -> Vec<(usize, bool
     let scalar = |key: &u32| matches!(operand(made.before, *key), Operand::Scalar(_));
     let ran = made.after != made.before;
     vec![
-        (8, ran && entries.iter().any(|entry| entry >> 1 & 127 == 0)),
-        (9, ran && entries.iter().any(|entry| entry >> 9 & 1 == 1)),
-        (10, ran && entries.iter().any(|entry| written.contains(&usize::from(entry >> 1 & 127)))),
-        (11, ran && named.iter().any(scalar)),
-        (12, ran && vectors.iter().any(|&a| vectors.iter().any(|&b| overlap(a, b)))),
-        (13, ran && (made.before.source != 0 || made.before.destination != 0)),
-        (14, ran && made.outcome.answer == 1),
-        (15, made.outcome.answer == 0 && made.after.pc < made.before.pc),
+        ("mask register 0", ran && entries.iter().any(|entry| entry >> 1 & 127 == 0)),
+        ("inverted mask", ran && entries.iter().any(|entry| entry >> 9 & 1 == 1)),
+        (
+            "mask among the registers written",
+            ran && entries.iter().any(|entry| written.contains(&usize::from(entry >> 1 & 127))),
+        ),
+        ("redirected scalar", ran && named.iter().any(scalar)),
+        ("two vectors that overlap", ran && vectors.iter().any(|&a| vectors.iter().any(|&b| overlap(a, b)))),
+        ("start at an offset", ran && (made.before.source != 0 || made.before.destination != 0)),
+        ("pause", ran && made.outcome.answer == 1),
+        ("program counter that wraps", made.outcome.answer == 0 && made.after.pc < made.before.pc),
+    ]
+}
+
+/// The reasons of answer 6.
+fn shape_situations(machine: &Machine) -> Vec<Seen> {
+    let control = [machine.mvl, machine.vl, machine.cfg, machine.source, machine.destination];
+    vec![
+        ("refused: MVL 0", machine.mvl == 0),
+        ("refused: MVL above 64", machine.mvl > 64),
+        ("refused: VL 0", machine.vl == 0),
+        ("refused: VL above MVL", machine.vl > machine.mvl),
+        ("refused: CFG above 31", machine.cfg > 31),
+        ("refused: source offset not below VL", machine.source >= machine.vl),
+        ("refused: destination offset not below VL", machine.destination >= machine.vl),
+        ("refused: register 0 not 0", machine.registers[0] != 0),
+        ("refused: bit 0 of a predicate entry", machine.predicate_table.iter().any(|entry| entry & 1 == 1)),
+        (
+            "refused: control word in shape in its low 32 bits",
+            control.iter().any(|&it| it >> 32 != 0 && it << 32 >> 32 < 65),
+        ),
     ]
 }

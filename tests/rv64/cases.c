@@ -52,19 +52,23 @@ static uint32_t word(void)
         0x00000003, 0x00001003, 0x00002003, 0x00003003, 0x00004003, 0x00005003, 0x00006003, /* LOAD */
         0x00000023, 0x00001023, 0x00002023, 0x00003023,                                     /* STORE */
     };
+    /* C leaves the order of calls in an expression open, so each number is drawn in a statement of its own. */
     uint32_t registers = any() & 0x000F8F80; /* rd and rs1 */
+    uint32_t form = forms[below(sizeof forms / sizeof *forms)];
+    uint32_t immediate_form = immediate_forms[below(sizeof immediate_forms / sizeof *immediate_forms)];
+    uint32_t upper = percent(80) ? 0x01F00000 : 0xFFF00000; /* an immediate of 0 to 31 in most words */
+    uint32_t bits = any();
     switch (below(8)) {
     case 0:
-        return any();
+        return bits;
     case 1:
-        return 0x8002 | (any() & 0xFFFF0FFC);
+        return 0x8002 | (bits & 0xFFFF0FFC);
     case 2:
     case 3:
     case 4:
-        return forms[below(sizeof forms / sizeof *forms)] | registers | (any() & 0x01F00000);
-    default: /* an immediate of 0 to 31 in most words, of any value in some */
-        return immediate_forms[below(sizeof immediate_forms / sizeof *immediate_forms)] | registers |
-               (any() & (percent(80) ? 0x01F00000 : 0xFFF00000));
+        return form | registers | (bits & 0x01F00000);
+    default:
+        return immediate_form | registers | (bits & upper);
     }
 }
 
@@ -104,41 +108,47 @@ static void fill(struct simplev_machine *m, uint32_t w)
     }
     for (int i = 0; i < SIMPLEV_ENTRIES; i++) {
         unsigned start = below(percent(95) ? 129 - m->control[SIMPLEV_VL] : 128);
+        unsigned vector = below(2), width = percent(3), flags = below(4), mask = below(128), named = key(w);
         if (percent(30))
-            m->register_table[i] = below(2) << 15 | start << 8 | 0x80 | (percent(3) ? 0x20 : 0) | key(w);
+            m->register_table[i] = vector << 15 | start << 8 | 0x80 | width << 5 | named;
         if (percent(20))
-            m->predicate_table[i] = key(w) << 11 | below(4) << 9 | 0x100 | below(128) << 1;
+            m->predicate_table[i] = named << 11 | flags << 9 | 0x100 | mask << 1;
     }
-    if (percent(4)) /* out of shape, most times */
-        m->control[1 + below(5)] ^= 1ULL << below(64);
+    if (percent(4)) { /* out of shape, most times */
+        unsigned place = below(64);
+        m->control[1 + below(5)] ^= 1ULL << place;
+    }
 }
 
 static uint32_t setting(struct simplev_machine *m, uint64_t *out)
 {
+    uint32_t entry = below(18), index = below(140);
+    uint64_t new = any();
     switch (below(9)) {
     case 0:
-        return simplev_machine_set_vl(m, below(70), out);
+        return simplev_machine_set_vl(m, new % 70, out);
     case 1:
-        return simplev_machine_set_vl_immediate(m, below(34), out);
+        return simplev_machine_set_vl_immediate(m, new % 34, out);
     case 2:
-        return simplev_machine_set_mvl(m, below(67), out);
+        return simplev_machine_set_mvl(m, new % 67, out);
     case 3:
-        return simplev_machine_set_cfg(m, below(34), out);
+        return simplev_machine_set_cfg(m, new % 34, out);
     case 4:
-        return simplev_machine_set_state_word(m, any() & 0x3F0C3FFF, out);
+        return simplev_machine_set_state_word(m, new & 0x3F0C3FFF, out);
     case 5:
-        return simplev_machine_set_pc(m, any(), out);
+        return simplev_machine_set_pc(m, new, out);
     case 6:
-        return simplev_machine_set_register(m, below(140), any(), out);
+        return simplev_machine_set_register(m, index, new, out);
     case 7:
-        return simplev_machine_set_register_entry(m, below(18), any(), out);
+        return simplev_machine_set_register_entry(m, entry, new, out);
     default:
-        return simplev_machine_set_predicate_entry(m, below(18), any(), out);
+        return simplev_machine_set_predicate_entry(m, entry, new, out);
     }
 }
 
 static uint32_t reading(struct simplev_machine *m, uint64_t *out)
 {
+    uint32_t entry = below(18), index = below(140);
     switch (below(8)) {
     case 0:
         return simplev_machine_read_vl(m, out);
@@ -151,11 +161,11 @@ static uint32_t reading(struct simplev_machine *m, uint64_t *out)
     case 4:
         return simplev_machine_read_state_word(m, out);
     case 5:
-        return simplev_machine_read_register(m, below(140), out);
+        return simplev_machine_read_register(m, index, out);
     case 6:
-        return simplev_machine_read_register_entry(m, below(18), out);
+        return simplev_machine_read_register_entry(m, entry, out);
     default:
-        return simplev_machine_read_predicate_entry(m, below(18), out);
+        return simplev_machine_read_predicate_entry(m, entry, out);
     }
 }
 
