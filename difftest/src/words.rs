@@ -115,7 +115,7 @@ fn sixteen(random: &mut Random) -> u32 {
     match random.below(4) {
         0 => any & !3 | random.below(3) as u32,
         1 => any & 0xFFFF_0F80 | 0x8002,
-        2 => any & 0xFFFF_0FFC | random.below(16) as u32 * 0x1000 | 2,
+        2 => any & 0xFFFF_0FFC | (random.below(16) as u32) << 12 | 2,
         _ => any & 0xFFFF_0FFC | 0x8000 | random.below(3) as u32,
     }
 }
