@@ -1,4 +1,4 @@
-//! A second implementation of the requirements, written from them alone and for reading.
+//! A second implementation of the requirements, written from them and for reading.
 //! It shares nothing with the proved library; the program `difftest` compares the two.
 
 pub mod calls;
