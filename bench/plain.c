@@ -177,11 +177,87 @@ static int load(struct machine *m, uint32_t word, uint16_t allowance, const uint
     return 1;
 }
 
+static void put(unsigned f, uint8_t *to, uint64_t v)
+{
+    switch (f & 3) {
+    case 0: *to = (uint8_t)v; break;
+    case 1: memcpy(to, &v, 2); break;
+    case 2: memcpy(to, &v, 4); break;
+    default: memcpy(to, &v, 8);
+    }
+}
+
+static int store(struct machine *m, uint32_t word, uint16_t allowance, uint8_t *memory, size_t size)
+{
+    unsigned f = word >> 12 & 7, bytes = 1u << (f & 3);
+    struct operand d = name(m, word >> 20 & 31), a = name(m, word >> 15 & 31);
+    struct mask kd = mask_of(m, word >> 20 & 31), ka = mask_of(m, word >> 15 & 31);
+    uint64_t offset = (uint64_t)(int64_t)((int32_t)word >> 25) << 5 | (word >> 7 & 31);
+    if (at(d, m->vl - 1) > 127 || at(a, m->vl - 1) > 127)
+        return 3;
+    uint64_t *x = m->registers, stride = a.vector ? 0 : bytes;
+    unsigned vl = m->vl, i = d.vector ? m->source : 0, j = m->destination;
+    if (!allowance)
+        return 1;
+    do {
+        while (d.vector && i < vl && !(kd.on >> i & 1))
+            i++;
+        while (j < vl && !(ka.on >> j & 1))
+            j++;
+        if (j == vl || (d.vector && i == vl))
+            return ended(m, 4);
+        uint64_t address = x[at(a, j)] + offset + j * stride;
+        if (size < bytes || address > size - bytes) {
+            m->source = i;
+            m->destination = j;
+            return 5;
+        }
+        put(f, memory + address, x[at(d, i)]);
+        j++;
+        if (j == vl || (d.vector && ++i == vl) || (!d.vector && !a.vector))
+            return ended(m, 4);
+    } while (--allowance);
+    m->source = i;
+    m->destination = j;
+    return 1;
+}
+
+static int move(struct machine *m, uint32_t word, uint16_t allowance)
+{
+    struct operand d = name(m, word >> 7 & 31), a = name(m, word >> 2 & 31);
+    struct mask kd = mask_of(m, word >> 7 & 31), ka = mask_of(m, word >> 2 & 31);
+    if (at(d, m->vl - 1) > 127 || at(a, m->vl - 1) > 127)
+        return 3;
+    uint64_t *x = m->registers;
+    unsigned vl = m->vl, i = a.vector ? m->source : 0, j = d.vector ? m->destination : 0;
+    if (!allowance)
+        return 1;
+    do {
+        while (a.vector && i < vl && !(ka.on >> i & 1))
+            i++;
+        while (d.vector && j < vl && !(kd.on >> j & 1))
+            j++;
+        if ((a.vector && i == vl) || (d.vector && j == vl))
+            return ended(m, 2);
+        uint64_t v = x[at(a, i)];
+        if (at(d, j))
+            x[at(d, j)] = v;
+        if (!d.vector || (a.vector && ++i == vl) || ++j == vl)
+            return ended(m, 2);
+    } while (--allowance);
+    m->source = i;
+    m->destination = j;
+    return 1;
+}
+
 int plain_run(struct machine *m, uint32_t word, uint16_t allowance, uint8_t *memory, size_t size)
 {
+    if ((word & 3) != 3)
+        return (word & 0xf003) == 0x8002 && (word >> 2 & 31) ? move(m, word, allowance) : 2;
     switch (word & 127) {
     case 0x13: case 0x33: case 0x1b: case 0x3b: return operation(m, word, allowance);
     case 0x03: return load(m, word, allowance, memory, size);
+    case 0x23: return store(m, word, allowance, memory, size);
     default: return 2;
     }
 }
