@@ -11,7 +11,7 @@ use Rattle.scalar.specs.Compute.{computed}
 use Rattle.tables.specs.Enabled.{enabledRange}
 use Rattle.tables.specs.Entry.{clearBelow}
 use Rattle.tables.specs.Search.{answers, candidate, highest, held}
-use Rattle.tables.specs.State.{stateInShape}
+use Rattle.state_word.specs.State.{stateInShape}
 use Rattle.encoding.specs.Listing.{funct3Rows, funct6Rows, funct7Rows, firstForm, lookUp}
 use Rattle.decode.specs.Naming.{named}
 use Rattle.decode.specs.Decoding.{decoded, decodedAs}

@@ -21,7 +21,7 @@ use Rattle.transfers.specs.declared.sides.Sides.{Sides}
 use Rattle.walk.specs.Context.{Context, left, ended, onward, pausing}
 use Rattle.walk.specs.Operation.{goOn, afterOn, positionDone, operationUnit}
 use Rattle.transfers.specs.Transfer.{Transferred, moved, outside, pairOf, afterPair, settled, atPair, transferUnit}
-use Rattle.demands.proofs.RegistersKept.{by-test}
+use Rattle.walk.proofs.OperationLaws.{by-cond}
 use Rattle.demands.proofs.Units.{or-false}
 
 -- an answer is a pause only where the position has gone up, by some count of positions
@@ -44,18 +44,18 @@ module _ (p : OperationPlan) (position : Position) where
   go-on-rises : RisesFrom (goOn p position (position .destination))
   unfolding goOn
   go-on-rises =
-      by-test RisesFrom (ltb (position .destination + 1) (p .vl)) (λ e q. omega arith) (λ e q. absurd (done-ends 0 q))
+      by-cond RisesFrom (ltb (position .destination + 1) (p .vl)) (λ e q. omega arith) (λ e q. absurd (done-ends 0 q))
 
   after-on-rises : RisesFrom (afterOn p position (position .destination))
   unfolding afterOn
-  after-on-rises = by-test RisesFrom (p .destination .vector) (λ e. go-on-rises) (λ e q. absurd (done-ends 0 q))
+  after-on-rises = by-cond RisesFrom (p .destination .vector) (λ e. go-on-rises) (λ e q. absurd (done-ends 0 q))
 
 pub operation-rises :
     (p : OperationPlan) (c : Context) → Paused pausing (operationUnit p c) →
     c .position .destination < operationUnit p c .state .position .destination
 unfolding operationUnit positionDone
 operation-rises p c =
-    by-test (λ (o : Outcome Answer Context). Paused pausing o → c .position .destination < o .state .position .destination)
+    by-cond (λ (o : Outcome Answer Context). Paused pausing o → c .position .destination < o .state .position .destination)
     (isOn (p .mask) (c .position .destination)) (λ e. after-on-rises p (c .position)) (λ e. go-on-rises p (c .position))
 
 -- the others count by their source side if it walks, and by the destination side if not
@@ -79,7 +79,7 @@ module _ (s : Sides) (goes : Goes s) (bytes : ℕ) (position : Position) where
   pair-rises i j h k =
       let one = past (s .source) (s .vl) (next (s .source) i) in
       let two = past (s .destination) (s .vl) (next (s .destination) j) in
-      by-test (Rises (counted s) position) (s .single || one || two) (λ e q. absurd (done-ends 0 q))
+      by-cond (Rises (counted s) position) (s .single || one || two) (λ e q. absurd (done-ends 0 q))
       (λ e q. by (or-false (s .single) one (or-false (s .single || one) two e .0) .0) (s .source .walks) refl)
     where
       by :

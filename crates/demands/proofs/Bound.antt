@@ -26,7 +26,7 @@ use Rattle.handler.specs.Unit.{unitOf}
 use Rattle.machine.proofs.Placed.{standing-within}
 use Rattle.machine.specs.Run.{System, contextOf, positionOf, wordOn, prepare, unit, run}
 use Rattle.demands.specs.Cuts.{NeverPauses}
-use Rattle.demands.proofs.RegistersKept.{by-test}
+use Rattle.walk.proofs.OperationLaws.{by-cond}
 use Rattle.demands.proofs.Preparing.{served-plan}
 use Rattle.demands.proofs.Systems.{PlanOf, plan-of, plan-kept}
 use Rattle.demands.proofs.Advance.{counted, Goes, operation-rises, transfer-rises}
@@ -41,9 +41,9 @@ countedBy (store p) position = counted (p .sides) position
 
 counted-within : (vl : ℕ) (position : Position) → Within vl position → (plan : Plan) → countedBy plan position < vl
 counted-within vl position w (operation p) = w .destination
-counted-within vl position w (move s) = by-test (λ x. x < vl) (s .source .walks) (λ e. w .source) (λ e. w .destination)
-counted-within vl position w (load p) = by-test (λ x. x < vl) (p .sides .source .walks) (λ e. w .source) (λ e. w .destination)
-counted-within vl position w (store p) = by-test (λ x. x < vl) (p .sides .source .walks) (λ e. w .source) (λ e. w .destination)
+counted-within vl position w (move s) = by-cond (λ x. x < vl) (s .source .walks) (λ e. w .source) (λ e. w .destination)
+counted-within vl position w (load p) = by-cond (λ x. x < vl) (p .sides .source .walks) (λ e. w .source) (λ e. w .destination)
+counted-within vl position w (store p) = by-cond (λ x. x < vl) (p .sides .source .walks) (λ e. w .source) (λ e. w .destination)
 
 not-not : (t : Bool) → not t ≡ false → t ≡ true
 not-not true e = refl

@@ -24,7 +24,7 @@ use Rattle.transfers.specs.Transfer.{Transferred, moved, outside, pairOf, after
 use Rattle.handler.specs.Prepare.{Plan, operation, move, load, store}
 use Rattle.handler.specs.Unit.{unitOf}
 use Rattle.demands.specs.Run.{pairAt}
-use Rattle.demands.proofs.RegistersKept.{by-test}
+use Rattle.walk.proofs.OperationLaws.{by-cond}
 
 abbrev pub Faults : Answer → Type 0
 Faults a = numberOf a ≡ 5
@@ -40,17 +40,17 @@ module _ (p : OperationPlan) (position : Position) (i : ℕ) where
   go-on-served : Faults (goOn p position i .answer) → ⊥
   unfolding goOn
   go-on-served =
-      by-test (λ (ran : Ran). Faults (ran .answer) → ⊥) (ltb (i + 1) (p .vl)) (λ e f. omega (arith, f)) (λ e f. omega (arith, f))
+      by-cond (λ (ran : Ran). Faults (ran .answer) → ⊥) (ltb (i + 1) (p .vl)) (λ e f. omega (arith, f)) (λ e f. omega (arith, f))
 
   after-on-served : Faults (afterOn p position i .answer) → ⊥
   unfolding afterOn
   after-on-served =
-      by-test (λ (ran : Ran). Faults (ran .answer) → ⊥) (p .destination .vector) (λ e. go-on-served) (λ e f. omega (arith, f))
+      by-cond (λ (ran : Ran). Faults (ran .answer) → ⊥) (p .destination .vector) (λ e. go-on-served) (λ e f. omega (arith, f))
 
 operation-served : (p : OperationPlan) (c : Context) → Faults (operationUnit p c .answer) → ⊥
 unfolding operationUnit positionDone
 operation-served p c =
-    by-test (λ (o : Outcome Answer Context). Faults (o .answer) → ⊥) (isOn (p .mask) (c .position .destination))
+    by-cond (λ (o : Outcome Answer Context). Faults (o .answer) → ⊥) (isOn (p .mask) (c .position .destination))
     (λ e. after-on-served p (c .position) (c .position .destination))
     (λ e. go-on-served p (c .position) (c .position .destination))
 
@@ -58,7 +58,7 @@ module _ (s : Sides) (bytes : ℕ) (c : Context) where
   after-pair-served : (i j : ℕ) → Faults (afterPair s bytes (c .position) i j .answer) → ⊥
   unfolding afterPair
   after-pair-served i j =
-      by-test (λ (ran : Ran). Faults (ran .answer) → ⊥)
+      by-cond (λ (ran : Ran). Faults (ran .answer) → ⊥)
       (s .single || past (s .source) (s .vl) (next (s .source) i) || past (s .destination) (s .vl) (next (s .destination) j))
       (λ e f. omega (arith, f)) (λ e f. omega (arith, f))
 

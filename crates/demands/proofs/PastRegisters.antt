@@ -29,7 +29,7 @@ use Rattle.plans.specs.Operands.{operandsOf, every, fitting}
 use Rattle.machine.specs.Run.{wordOn}
 use Rattle.demands.specs.Premise.{Some}
 use Rattle.demands.specs.PastRegisters.{PastVector, PastRegistersIsVector}
-use Rattle.demands.proofs.RegistersKept.{by-test}
+use Rattle.walk.proofs.OperationLaws.{by-cond}
 
 -- every operand of a list has Q
 abbrev All : (Named → Type 0) → List Named → Type 0
@@ -64,7 +64,7 @@ module _ (Q : Named → Type 0) (name : ℕ → Named) (q : (key : ℕ) → key 
   move-named : All Q (operandsOf (compressedMove name word))
   unfolding compressedMove
   move-named =
-      by-test (λ d. All Q (operandsOf d))
+      by-cond (λ d. All Q (operandsOf d))
       (eqb (bits 1 0 word) 0b10 && eqb (bits 15 12 word) 0b1000 && not (eqb (compressedRs2 word) 0))
       (λ e. (rd-named, (q (compressedRs2 word) (mod-lt _ (omega arith)), tt))) (λ e. tt)
 
@@ -88,7 +88,7 @@ unfolding decoded
 word-small word cfg registerTable predicateTable =
     let name = named cfg registerTable predicateTable in
     let small = named-small cfg registerTable predicateTable in
-    by-test (λ d. All Small (operandsOf d)) (eqb (bits 1 0 word) 0b11)
+    by-cond (λ d. All Small (operandsOf d)) (eqb (bits 1 0 word) 0b11)
     (λ e. form-named Small name small word (formOf word)) (λ e. move-named Small name small word)
 
 module _ (vl : ℕ) where

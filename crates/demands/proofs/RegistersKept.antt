@@ -1,7 +1,6 @@
 -- What a write keeps of the registers.
 use Prim.Native.Nat.{ℕ}
 use mathlib.Core.Path.{_≡_, refl}
-use mathlib.Core.Bool.{Bool, true, false, cond}
 use mathlib.Core.List.{List}
 use lib.ListN.{length, getD}
 use Rattle.registers.specs.Written.{written}
@@ -23,8 +22,3 @@ module _ {Writes : ℕ → Type 0} (registers : List ℕ) where
     zero-register = zero-kept registers i value;
     size = length-kept registers i value;
   }
-
--- one of two, by a test
-pub by-test : {A : Type 0} (Q : A → Type 0) (t : Bool) {x y : A} → (t ≡ true → Q x) → (t ≡ false → Q y) → Q (cond t x y)
-by-test Q true f g = f refl
-by-test Q false f g = g refl

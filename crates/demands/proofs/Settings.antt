@@ -8,12 +8,12 @@ use lib.ListN.{getD}
 use native.Mathlib.Omega.{arith}
 use borrow.Author.Tests.{leb-true}
 use Rattle.registers.proofs.Writes.{zero-kept}
-use Rattle.tables.specs.declared.state.State.{State}
+use Rattle.state_word.specs.declared.State.{State}
 use Rattle.tables.specs.Entry.{bit0Clear, allBit0Clear}
-use Rattle.tables.specs.State.{stateInShape, goodWord}
+use Rattle.state_word.specs.State.{stateInShape, goodWord}
 use Rattle.tables.proofs.Booleans.{and-left, and-right}
 use Rattle.tables.proofs.Clear.{clear-set}
-use Rattle.tables.proofs.States.{vl-kept, mvl-kept, cfg-kept, word-kept}
+use Rattle.state_word.proofs.States.{vl-kept, mvl-kept, cfg-kept, word-kept}
 use Rattle.machine.specs.declared.Machine.{Machine}
 use Rattle.machine.specs.declared.Reply.{Reply}
 use Rattle.answers.specs.Answer.{accepts}

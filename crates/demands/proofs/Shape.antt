@@ -1,7 +1,7 @@
 -- The claims about shape and refusals hold.
 use mathlib.Core.Path.{refl}
 use Rattle.tables.specs.Entry.{clearBelow}
-use Rattle.tables.specs.State.{stateInShape}
+use Rattle.state_word.specs.State.{stateInShape}
 use Rattle.machine.specs.Shape.{inShape, roomInShape, tablesInShape}
 use Rattle.demands.specs.Shape.{ShapeKept}
 use Rattle.demands.proofs.Settings.{sound}

@@ -3,8 +3,8 @@ use Prim.Native.Nat.{ℕ}
 use mathlib.Core.Path.{_≡_, refl}
 use mathlib.Core.Bool.{Bool, true, false, cond}
 use native.Mathlib.Omega.{arith}
-use Rattle.tables.specs.State.{fields, wordOf, cut, goodWord}
-use Rattle.tables.proofs.States.{fields-back, cut-same, good-back, mvl-back, vl-back, rest-back, word-kept}
+use Rattle.state_word.specs.State.{fields, wordOf, cut, goodWord}
+use Rattle.state_word.proofs.States.{fields-back, cut-same, good-back, mvl-back, vl-back, rest-back, word-kept}
 use Rattle.machine.specs.declared.Machine.{Machine}
 use Rattle.machine.specs.declared.Reply.{Reply}
 use Rattle.answers.specs.Answer.{valueOf, accepts}

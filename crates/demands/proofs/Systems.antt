@@ -10,8 +10,8 @@ use Rattle.answers.specs.declared.Answer.the-variants.{OutOfShape}
 use Rattle.decode.specs.declared.decoded.Decoded.{Decoded}
 use Rattle.pausable.specs.Outcome.{Outcome}
 use Rattle.pausable.specs.Call.{Prepared, refused, ready}
-use Rattle.tables.proofs.States as state
-use Rattle.tables.proofs.States.{Bounds, bounds}
+use Rattle.state_word.proofs.States as state
+use Rattle.state_word.proofs.States.{Bounds, bounds}
 use Rattle.transfers.specs.SidesReady.{Within}
 use Rattle.walk.specs.Context.{Context}
 use Rattle.handler.specs.Prepare.{Plan, prepared}

@@ -23,7 +23,8 @@ use Rattle.walk.specs.Context.{Context, left, ended, onward}
 use Rattle.walk.specs.Operation.{elementOf, goOn, afterOn, positionDone, operationUnit}
 use Rattle.transfers.specs.Transfer.{faulted, Transferred, moved, outside, pairOf, afterPair, settled, atPair, transferUnit}
 use Rattle.transfers.specs.SidesReady.{Within}
-use Rattle.demands.proofs.RegistersKept.{RegistersKept, unwritten, one-written, by-test}
+use Rattle.walk.proofs.OperationLaws.{by-cond}
+use Rattle.demands.proofs.RegistersKept.{RegistersKept, unwritten, one-written}
 
 -- answers 0, 1 and 5, with no value but an address
 abbrev pub Walked : Answer → Type 0
@@ -67,14 +68,14 @@ module _ (p : OperationPlan) (position : Position) (i : ℕ) (h : i < p .vl) whe
   go-on-sound : RanSound (p .vl) (goOn p position i)
   unfolding goOn
   go-on-sound =
-      by-test (RanSound (p .vl)) (ltb (i + 1) (p .vl))
+      by-cond (RanSound (p .vl)) (ltb (i + 1) (p .vl))
       (λ e. let l = ltb-true (i + 1) (p .vl) e in onward-sound (p .vl) position (i + 1) (i + 1) l l)
       (λ e. ended-sound (p .vl) position 4 (omega arith))
 
   after-on-sound : RanSound (p .vl) (afterOn p position i)
   unfolding afterOn
   after-on-sound =
-      by-test (RanSound (p .vl)) (p .destination .vector) (λ e. go-on-sound)
+      by-cond (RanSound (p .vl)) (p .destination .vector) (λ e. go-on-sound)
       (λ e. ended-sound (p .vl) position 4 (omega arith))
 
 pub operation-sound :
@@ -84,14 +85,14 @@ pub operation-sound :
 unfolding operationUnit positionDone
 operation-sound p Writes c h writes =
     let i = c .position .destination in
-    by-test (UnitSound (p .vl) Writes (c .registers)) (isOn (p .mask) i)
+    by-cond (UnitSound (p .vl) Writes (c .registers)) (isOn (p .mask) i)
     (λ e.
     sound-left (after-on-sound p (c .position) i h)
     (one-written (c .registers) (registerAt (p .destination) i) (elementOf p (c .registers) i) (writes i h))
     (c .memory))
     (λ e.
     sound-left (go-on-sound p (c .position) i h)
-    (by-test (RegistersKept Writes (c .registers)) (p .mask .zeroing)
+    (by-cond (RegistersKept Writes (c .registers)) (p .mask .zeroing)
     (λ f. one-written (c .registers) (registerAt (p .destination) i) 0 (writes i h)) (λ f. unwritten (c .registers)))
     (c .memory))
 
@@ -105,7 +106,7 @@ module _ (s : Sides) (bytes : ℕ) (position : Position) (i j : ℕ) where
   after-pair-sound h =
       let one = past (s .source) (s .vl) (next (s .source) i) in
       let two = past (s .destination) (s .vl) (next (s .destination) j) in
-      by-test (RanSound (s .vl)) (s .single || one || two) (λ e. ended-sound (s .vl) position bytes h)
+      by-cond (RanSound (s .vl)) (s .single || one || two) (λ e. ended-sound (s .vl) position bytes h)
       (λ e.
       let f = or-false (s .single || one) two e in
       let g = or-false (s .single) one (f .0) in

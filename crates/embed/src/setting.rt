@@ -11,8 +11,8 @@ use lent::setting::set_vl;
 use lent::state_of;
 use lent::tell;
 use machine::Machine;
-use tables::state::State;
-use tables::state::good_word;
+use state_word::State;
+use state_word::good_word;
 
 // Plain form: n from 1.
 #[no_mangle]

@@ -3,7 +3,7 @@ use Prim.Native.Nat.{ℕ}
 use mathlib.Core.Path.{_≡_}
 use mathlib.Core.List.{List, [], _∷_}
 use lib.ListN.{length, getD}
-use Rattle.tables.specs.declared.state.State.{State}
+use Rattle.state_word.specs.declared.State.{State}
 use Rattle.machine.specs.declared.Machine.{Machine}
 
 -- the control words after the first

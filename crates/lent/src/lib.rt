@@ -2,14 +2,14 @@
 ghost use mathlib.Core.Path.{_≡_};
 ghost use mathlib.Core.Bool.{true};
 ghost use Rattle.answers.specs.Verdict.{verdict};
-ghost use Rattle.tables.specs.State.{stateInShape};
+ghost use Rattle.state_word.specs.State.{stateInShape};
 ghost use Rattle.machine.specs.Shape.{inShape};
 ghost use Rattle.lent.specs.Layout.{stateOf, machineOf};
 ghost use Rattle.lent.specs.Leaves.{Says};
 use answers::Answer;
 use answers::verdict_of;
+use state_word::State;
 use tables::entry::all_bit0_clear;
-use tables::state::State;
 
 pub mod reading;
 pub mod setting;

@@ -13,7 +13,7 @@ use crate::judged;
 use crate::state_of;
 use crate::tell;
 use answers::Answer;
-use tables::state::State;
+use state_word::State;
 
 // Replaces an entry.
 pub fn put_entry(entries: &mut [u16; 16], index: u32, entry: u16)

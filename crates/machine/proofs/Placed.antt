@@ -9,7 +9,7 @@ use Rattle.answers.specs.Answer.{pauses}
 use Rattle.pausable.specs.Outcome.{Outcome, outcome}
 use Rattle.pausable.specs.Walk.{walk}
 use Rattle.pausable.specs.Call.{Prepared, refused, ready, begun}
-use Rattle.tables.proofs.States.{bounds}
+use Rattle.state_word.proofs.States.{bounds}
 use Rattle.walk.specs.Context.{Context, pausing}
 use Rattle.transfers.specs.SidesReady.{Within}
 use Rattle.handler.specs.Prepare.{Plan, prepared}

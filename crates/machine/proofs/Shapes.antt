@@ -5,7 +5,7 @@ use lib.Dec.{eqb}
 use lib.ListN.{getD}
 use borrow.Author.Tests.{eq-eqb, eqb-true}
 use Rattle.tables.specs.Entry.{allBit0Clear}
-use Rattle.tables.specs.State.{stateInShape}
+use Rattle.state_word.specs.State.{stateInShape}
 use Rattle.tables.proofs.Booleans.{and-left, and-right}
 use Rattle.machine.specs.declared.Machine.{Machine}
 use Rattle.machine.specs.Shape.{roomInShape, tablesInShape, inShape}

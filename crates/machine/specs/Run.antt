@@ -8,7 +8,7 @@ use Rattle.decode.specs.declared.decoded.Decoded.{Decoded}
 use Rattle.decode.specs.Decoding.{decoded}
 use Rattle.pausable.specs.Outcome.{Outcome, outcome}
 use Rattle.pausable.specs.Call.{Prepared, refused, called}
-use Rattle.tables.specs.declared.state.State.{State}
+use Rattle.state_word.specs.declared.State.{State}
 use Rattle.walk.specs.declared.position.Position.{Position}
 use Rattle.walk.specs.Context.{Context, context, pausing}
 use Rattle.handler.specs.Prepare.{Plan, prepared}

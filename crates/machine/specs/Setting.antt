@@ -5,7 +5,7 @@ use lib.Dec.{leb, ltb}
 use lib.ListN.{set}
 use Rattle.registers.specs.Written.{written}
 use Rattle.tables.specs.Entry.{bit0Clear}
-use Rattle.tables.specs.State.{withVl, withMvl, withCfg, fields, cut, goodWord}
+use Rattle.state_word.specs.State.{withVl, withMvl, withCfg, fields, cut, goodWord}
 use Rattle.machine.specs.declared.Machine.{Machine}
 use Rattle.machine.specs.declared.Reply.{Reply}
 use Rattle.machine.specs.Calls.{done, guarded}

@@ -4,7 +4,7 @@ use mathlib.Core.Bool.{Bool, _&&_}
 use lib.Dec.{eqb}
 use lib.ListN.{length, getD, replicate}
 use Rattle.tables.specs.Entry.{allBit0Clear}
-use Rattle.tables.specs.State.{stateInShape}
+use Rattle.state_word.specs.State.{stateInShape}
 use Rattle.machine.specs.declared.Machine.{Machine}
 
 -- MVL 1, VL 1, CFG 24 and all else zero

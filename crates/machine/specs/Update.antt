@@ -1,7 +1,7 @@
 -- A machine with some of its fields replaced.
 use Prim.Native.Nat.{ℕ}
 use mathlib.Core.List.{List}
-use Rattle.tables.specs.declared.state.State.{State}
+use Rattle.state_word.specs.declared.State.{State}
 use Rattle.machine.specs.declared.Machine.{Machine}
 
 -- what one hearing has of its own, as given

@@ -5,8 +5,8 @@ ghost use Rattle.answers.specs.Verdict.{verdict};
 ghost use Rattle.machine.specs.Calls.{refuse, done};
 use answers::Answer;
 use answers::verdict_of;
+use state_word::State;
 use tables::entry::all_bit0_clear;
-use tables::state::State;
 
 pub mod reading;
 pub mod running;

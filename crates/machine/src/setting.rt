@@ -5,9 +5,9 @@ ghost use Rattle.machine.specs.Update.{withRegisters};
 ghost use Rattle.machine.specs.Setting.{vlSet, setVl, setVlImmediate, setMvl, setCfg, setRegisterEntry, setPredicateEntry, setRegister, setPc, setStateWord};
 use crate::Machine;
 use crate::Reply;
+use state_word::State;
+use state_word::good_word;
 use tables::entry::with_entry;
-use tables::state::State;
-use tables::state::good_word;
 
 impl Machine {
     fn vl_set(mut self, n: u64) -> Reply

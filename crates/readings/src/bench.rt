@@ -2,8 +2,8 @@
 use machine::Machine;
 use machine::Reply;
 use reading_lines::call as c;
+use state_word::State;
 use tables::entry::with_entry;
-use tables::state::State;
 
 // A line's numbers were read within these bounds.
 fn low16(n: u64) -> u16 {

@@ -8,7 +8,7 @@ use Rattle.scalar.specs.Signed.{signExtended}
 use Rattle.tables.specs.Enabled.{enabledRange}
 use Rattle.tables.specs.Entry.{clearBelow}
 use Rattle.tables.specs.Search.{answers, candidate, highest, held}
-use Rattle.tables.specs.State.{stateInShape, fields, goodWord}
+use Rattle.state_word.specs.State.{stateInShape, fields, goodWord}
 use Rattle.memory.specs.Access.{inside, located}
 use Rattle.memory.specs.LittleEndian.{number}
 use Rattle.memory.specs.Transfer.{loaded}

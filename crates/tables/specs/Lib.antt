@@ -2,4 +2,3 @@ pub mod Bits
 pub mod Enabled
 pub mod Entry
 pub mod Search
-pub mod State

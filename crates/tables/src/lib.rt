@@ -1,5 +1,4 @@
-// The two tables and the state word: entries, what a CFG enables, the entry that holds for a key.
+// The two tables: entries, what a CFG enables, the entry that holds for a key.
 pub mod enabled;
 pub mod entry;
 pub mod search;
-pub mod state;

@@ -1,5 +1,5 @@
 use borrow.Author.Needs.{needs}
-use Rattle.tables.specs.State.{stateInShape}
+use Rattle.state_word.specs.State.{stateInShape}
 use Rattle.machine.specs.Shape.{inShape, roomInShape, tablesInShape}
 use Rattle.lent.proofs.in_shape.Statement.{statement}
 use Rattle.lent.proofs.in_shape.Tie as tie

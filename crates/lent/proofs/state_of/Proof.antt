@@ -3,7 +3,7 @@ use mathlib.Core.Path.{_≡_}
 use native.Mathlib.Nat.{mod-eq-of-lt}
 use native.Mathlib.Omega.{arith}
 use borrow.Author.Needs.{needs}
-use Rattle.tables.proofs.States.{bounds}
+use Rattle.state_word.proofs.States.{bounds}
 use Rattle.lent.specs.Layout.{stateOf}
 use Rattle.lent.proofs.state_of.Statement.{statement}
 use Rattle.lent.proofs.state_of.Tie as tie

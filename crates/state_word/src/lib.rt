@@ -1,7 +1,7 @@
 // The five fields of the state word, and the word itself.
 ghost use mathlib.Core.Path.{_≡_};
 ghost use Prim.Native.Nat.{_-_, min};
-ghost use Rattle.tables.specs.State.{fields, wordOf, cut, goodWord, withVl, withMvl, stateInShape};
+ghost use Rattle.state_word.specs.State.{fields, wordOf, cut, goodWord, withVl, withMvl, stateInShape};
 
 #[repr(C)]
 pub struct State {

@@ -1,8 +1,8 @@
 use native.Mathlib.Nat.{mul-one}
 use borrow.Author.Needs.{needs}
-use Rattle.tables.specs.State.{wordOf}
-use Rattle.tables.proofs.state.State.word.Statement.{statement}
-use Rattle.tables.proofs.state.State.word.Tie as tie
+use Rattle.state_word.specs.State.{wordOf}
+use Rattle.state_word.proofs.State.word.Statement.{statement}
+use Rattle.state_word.proofs.State.word.Tie as tie
 
 returns : tie.Need-returns
 unfolding wordOf

@@ -4,10 +4,10 @@ use mathlib.Core.Path.{_≡_, sym, _∙_}
 use mathlib.Core.Bool.{true}
 use native.Mathlib.Omega.{arith}
 use borrow.Author.Tests.{lt-ltb, le-leb, eq-eqb, leb-true, ltb-true, eqb-true}
-use Rattle.tables.specs.declared.state.State.{State}
+use Rattle.state_word.specs.declared.State.{State}
 use Rattle.tables.specs.Bits.{bits}
-use Rattle.tables.specs.State.{stateInShape, withVl, withMvl, withCfg, fields, wordOf, cut, goodWord}
+use Rattle.state_word.specs.State.{stateInShape, withVl, withMvl, withCfg, fields, wordOf, cut, goodWord}
 use Rattle.tables.proofs.Booleans.{and-left, and-right}
 
 -- what being in shape says of the fields
 pub record Bounds (s : State) : Type 0 where

@@ -2,8 +2,8 @@
 use Prim.Native.Nat.{ℕ, _+_, _-_, min}
 use mathlib.Core.Bool.{Bool, _&&_}
 use lib.Dec.{eqb, leb, ltb}
-use Rattle.tables.specs.declared.state.State.{State}
+use Rattle.state_word.specs.declared.State.{State}
 use Rattle.tables.specs.Bits.{bits, inBits}
 
 -- MVL 1 to 64, VL 1 to MVL, CFG 0 to 31, source and destination offset each below VL
 unfoldable pub stateInShape : State → Bool

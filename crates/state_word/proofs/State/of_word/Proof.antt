@@ -1,8 +1,8 @@
 use native.Mathlib.Nat.{div-one}
 use borrow.Author.Needs.{needs}
-use Rattle.tables.specs.State.{fields}
-use Rattle.tables.proofs.state.State.of_word.Statement.{statement}
-use Rattle.tables.proofs.state.State.of_word.Tie as tie
+use Rattle.state_word.specs.State.{fields}
+use Rattle.state_word.proofs.State.of_word.Statement.{statement}
+use Rattle.state_word.proofs.State.of_word.Tie as tie
 
 returns : tie.Need-returns
 unfolding fields

@@ -1,7 +1,7 @@
 use borrow.Author.Needs.{needs}
-use Rattle.tables.specs.State.{goodWord}
-use Rattle.tables.proofs.state.good_word.Statement.{statement}
-use Rattle.tables.proofs.state.good_word.Tie as tie
+use Rattle.state_word.specs.State.{goodWord}
+use Rattle.state_word.proofs.good_word.Statement.{statement}
+use Rattle.state_word.proofs.good_word.Tie as tie
 
 returns : tie.Need-returns
 unfolding goodWord

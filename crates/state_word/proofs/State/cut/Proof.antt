@@ -1,6 +1,6 @@
 use borrow.Author.Needs.{needs}
-use Rattle.tables.proofs.state.State.cut.Statement.{statement}
-use Rattle.tables.proofs.state.State.cut.Tie as tie
+use Rattle.state_word.proofs.State.cut.Statement.{statement}
+use Rattle.state_word.proofs.State.cut.Tie as tie
 
 returns : tie.Need-returns
 returns c = rw (c .least .ensures)
