@@ -7,10 +7,10 @@ use lib.ListN.{getD}
 use Rattle.answers.specs.declared.Answer.{Answer}
 use Rattle.answers.specs.Answer.{pauses}
 use Rattle.registers.specs.Written.{written}
-use Rattle.scalar.specs.Compute.{computed}
+use Rattle.compute.specs.Compute.{computed}
 use Rattle.tables.specs.Enabled.{enabledRange}
 use Rattle.tables.specs.Entry.{clearBelow}
-use Rattle.tables.specs.Search.{answers, candidate, highest, held}
+use Rattle.search.specs.Search.{answers, candidate, highest, held}
 use Rattle.state_word.specs.State.{stateInShape}
 use Rattle.encoding.specs.Listing.{funct3Rows, funct6Rows, funct7Rows, firstForm, lookUp}
 use Rattle.decode.specs.Naming.{named}

@@ -4,10 +4,10 @@ use mathlib.Core.Path.{_≡_, sym, _∙_}
 use mathlib.Core.Bool.{Bool, true, false, cond}
 use mathlib.Core.List.{List}
 use native.Mathlib.Omega.{arith}
-use Rattle.tables.specs.declared.search.Table.{Table}
-use Rattle.tables.specs.declared.search.Held.{Held}
-use Rattle.tables.specs.declared.search.Held.the-variants.{At}
-use Rattle.tables.specs.Search.{candidate, highest, held}
+use Rattle.search.specs.declared.Table.{Table}
+use Rattle.search.specs.declared.Held.{Held}
+use Rattle.search.specs.declared.Held.the-variants.{At}
+use Rattle.search.specs.Search.{candidate, highest, held}
 
 highest-below : (test : ℕ → Bool) (n i : ℕ) → highest test n ≡ At i → i < n
 unfolding highest

@@ -1,6 +1,6 @@
 use mathlib.Core.Path.{refl}
 use Rattle.tables.specs.Enabled.{enabledRange}
-use Rattle.tables.specs.Search.{answers, candidate, highest, held}
+use Rattle.search.specs.Search.{answers, candidate, highest, held}
 use Rattle.encoding.specs.Listing.{funct3Rows, funct6Rows, funct7Rows, firstForm, lookUp}
 use Rattle.decode.specs.Naming.{named}
 use Rattle.decode.specs.Decoding.{decoded, decodedAs, compressedMove}

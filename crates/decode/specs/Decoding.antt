@@ -4,7 +4,7 @@ use mathlib.Core.Bool.{Bool, true, false, cond, _&&_, not}
 use mathlib.Core.List.{List}
 use lib.Dec.{eqb}
 use Rattle.scalar.specs.declared.width.Width.{Width}
-use Rattle.scalar.specs.declared.compute.Operator.{Operator}
+use Rattle.scalar.specs.declared.operator.Operator.{Operator}
 use Rattle.tables.specs.Bits.{bits}
 use Rattle.decode.specs.declared.decoded.Named.{Named}
 use Rattle.decode.specs.declared.decoded.Second.{Second}

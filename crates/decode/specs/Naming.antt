@@ -4,11 +4,11 @@ use mathlib.Core.Bool.{cond}
 use mathlib.Core.List.{List}
 use lib.ListN.{getD}
 use Rattle.tables.specs.declared.entry.RegisterEntry.{RegisterEntry}
-use Rattle.tables.specs.declared.search.Held.{Held}
-use Rattle.tables.specs.declared.search.Held.the-variants.{At, Nothing}
-use Rattle.tables.specs.declared.search.Table.the-variants as table
+use Rattle.search.specs.declared.Held.{Held}
+use Rattle.search.specs.declared.Held.the-variants.{At, Nothing}
+use Rattle.search.specs.declared.Table.the-variants as table
 use Rattle.tables.specs.Entry.{registerEntry}
-use Rattle.tables.specs.Search.{held}
+use Rattle.search.specs.Search.{held}
 use Rattle.decode.specs.declared.decoded.Operand.{Operand}
 use Rattle.decode.specs.declared.decoded.Operand.the-variants.{Plain, Scalar, Vector}
 use Rattle.decode.specs.declared.decoded.Named.{Named}

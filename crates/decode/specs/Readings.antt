@@ -5,8 +5,8 @@ use mathlib.Core.Bool.{Bool, true, false}
 use mathlib.Core.List.{[], _∷_}
 use Rattle.scalar.specs.declared.width.Width.{Width}
 use Rattle.scalar.specs.declared.width.Width.the-variants.{Word, Double}
-use Rattle.scalar.specs.declared.compute.Operator.{Operator}
-use Rattle.scalar.specs.declared.compute.Operator.the-variants.{Add, Sra}
+use Rattle.scalar.specs.declared.operator.Operator.{Operator}
+use Rattle.scalar.specs.declared.operator.Operator.the-variants.{Add, Sra}
 use Rattle.decode.specs.declared.decoded.Operand.the-variants.{Plain, Vector}
 use Rattle.decode.specs.declared.decoded.Named.{Named}
 use Rattle.decode.specs.declared.decoded.Second.{Second}

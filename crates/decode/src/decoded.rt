@@ -1,5 +1,5 @@
 // What a word is, with its operands.
-use scalar::compute::Operator;
+use scalar::operator::Operator;
 use scalar::width::Width;
 
 // What a register number of an instruction names: itself, or the real register of its entry.

@@ -10,7 +10,7 @@ use crate::decoded::Second;
 use crate::decoded::StoreWord;
 use crate::operand::named_for;
 use encoding::fields;
-use scalar::compute::Operator;
+use scalar::operator::Operator;
 use scalar::width::Width;
 
 // An operation writes to rd; its first operand is rs1.

@@ -1,14 +1,14 @@
 // What a register number of an instruction names, by the two tables.
 ghost use mathlib.Core.Path.{_≡_};
-ghost use Rattle.tables.specs.Search.{held};
-ghost use Rattle.tables.specs.declared.search.Table.the-variants.{Predicate};
+ghost use Rattle.search.specs.Search.{held};
+ghost use Rattle.search.specs.declared.Table.the-variants.{Predicate};
 ghost use Rattle.decode.specs.Naming.{named, predicateBy, redirected};
 use crate::decoded::Named;
 use crate::decoded::Operand;
+use search::Held;
+use search::Table;
+use search::held_for;
 use tables::entry::RegisterEntry;
-use tables::search::Held;
-use tables::search::Table;
-use tables::search::held_for;
 
 // The word of the predicate entry that holds for a key, 0 where none does.
 fn predicate_for(entries: &[u16; 16], cfg: u32, key: u8) -> u16

@@ -11,10 +11,10 @@ use native.Mathlib.Omega.{arith}
 use borrow.Author.Tests.{ltb-false, lt-ltb, le-ltb}
 use Rattle.tables.specs.Bits.{bits}
 use Rattle.tables.specs.Entry.{registerEntry}
-use Rattle.tables.specs.Search.{held}
-use Rattle.tables.specs.declared.search.Held.{Held}
-use Rattle.tables.specs.declared.search.Held.the-variants.{At, Nothing}
-use Rattle.tables.specs.declared.search.Table.the-variants as table
+use Rattle.search.specs.Search.{held}
+use Rattle.search.specs.declared.Held.{Held}
+use Rattle.search.specs.declared.Held.the-variants.{At, Nothing}
+use Rattle.search.specs.declared.Table.the-variants as table
 use Rattle.encoding.specs.declared.form.Form.{Form}
 use Rattle.encoding.specs.declared.form.Form.the-variants as form
 use Rattle.encoding.specs.Fields.{rd, rs1, rs2, compressedRs2}

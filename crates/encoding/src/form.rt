@@ -3,7 +3,7 @@ ghost use mathlib.Core.Path.{_≡_};
 ghost use Prim.Native.Nat.{_+_, _*_, _^_};
 ghost use Rattle.encoding.specs.Fields.{opcode, funct3};
 ghost use Rattle.encoding.specs.Listing.{formOf, lookUp, funct6Rows, funct7Rows};
-use scalar::compute::Operator;
+use scalar::operator::Operator;
 use scalar::width::Width;
 
 // The forms that differ in their operands. The four of operations differ in the second one.

@@ -1,4 +1,2 @@
 pub mod Width
 pub mod Signed
-pub mod Compute
-pub mod Ends

@@ -6,5 +6,5 @@ pub mod width;
 // Two's complement: signed compare, arithmetic shift, sign extension.
 pub mod signed;
 
-// The operators and what each computes.
-pub mod compute;
+// The operators.
+pub mod operator;

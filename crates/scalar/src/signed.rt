@@ -55,14 +55,14 @@ pub fn signed_less(a: u64, b: u64) -> bool
 }
 
 // a shifted right by the low 6 bits of b, copying the sign bit.
-pub(crate) fn arithmetic_shift(a: u64, b: u64) -> u64
+pub fn arithmetic_shift(a: u64, b: u64) -> u64
     ensures { λ r. ⌜ r ≡ arithmeticShift w64 a (b % 64) ⌝ }
 {
     of_i64(to_i64(a) >> b % 64)
 }
 
 // The low word of a shifted right by the low 5 bits of b, copying its sign bit, and sign-extended.
-pub(crate) fn arithmetic_shift_word(a: u64, b: u64) -> u64
+pub fn arithmetic_shift_word(a: u64, b: u64) -> u64
     ensures { λ r. ⌜ r ≡ signExtended Word (arithmeticShift w32 (lowWord a) (b % 32)) ⌝ }
 {
     of_i64((to_i32((a % 0x1_0000_0000) as u32) >> b % 32) as i64)

@@ -1,5 +1,3 @@
 pub mod Booleans
 pub mod Clear
 pub mod Ranges
-pub mod Highest
-pub mod Fields

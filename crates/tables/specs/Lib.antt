@@ -1,4 +1,3 @@
 pub mod Bits
 pub mod Enabled
 pub mod Entry
-pub mod Search

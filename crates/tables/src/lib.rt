@@ -1,4 +1,3 @@
-// The two tables: entries, what a CFG enables, the entry that holds for a key.
+// The two tables: their entries, and what a CFG enables.
 pub mod enabled;
 pub mod entry;
-pub mod search;

@@ -1,9 +1,9 @@
+use compute::compute;
 use decode::decoded::Decoded;
 use decode::decoded::Named;
 use decode::decoded::Operand;
 use decode::decoded::OperationWord;
 use decode::decoded::Second;
-use scalar::compute::compute;
 
 pub enum Execution {
     Result(u64),

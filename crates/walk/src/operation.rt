@@ -8,11 +8,11 @@ ghost use Rattle.walk.specs.OperationReady.{SecondFits, OperationReady};
 use crate::position::Position;
 use crate::position::Ran;
 use answers::Answer;
+use compute::compute;
 use operands::mask::Mask;
 use operands::place::Place;
 use registers::write_within;
-use scalar::compute::Operator;
-use scalar::compute::compute;
+use scalar::operator::Operator;
 
 pub enum Second {
     Register(Place),

@@ -2,8 +2,8 @@
 ghost use Prim.Native.Nat.{_+_, _≤_};
 ghost use mathlib.Core.Path.{_≡_};
 ghost use mathlib.Core.Bool.{true};
-ghost use Rattle.tables.specs.Search.{answers, held, NoneAnswers};
-use crate::enabled::enabled_range;
+ghost use Rattle.search.specs.Search.{answers, held, NoneAnswers};
+use tables::enabled::enabled_range;
 
 pub enum Table {
     Register,

@@ -5,12 +5,12 @@ use mathlib.Core.Bool.{Bool, false, cond, _&&_}
 use mathlib.Core.List.{List}
 use lib.Dec.{eqb}
 use lib.ListN.{getD}
-use Rattle.tables.specs.declared.search.Table.{Table}
-use Rattle.tables.specs.declared.search.Table.the-variants.{Register, Predicate}
-use Rattle.tables.specs.declared.search.Held.{Held}
-use Rattle.tables.specs.declared.search.Held.the-variants.{At, Nothing}
+use Rattle.search.specs.declared.Table.{Table}
+use Rattle.search.specs.declared.Table.the-variants.{Register, Predicate}
+use Rattle.search.specs.declared.Held.{Held}
+use Rattle.search.specs.declared.Held.the-variants.{At, Nothing}
 use Rattle.tables.specs.Enabled.{enabled}
 use Rattle.tables.specs.Entry.{registerEntry, predicateEntry}
 
 -- An entry whose integer bit is 0 is ignored; the empty entry, zero, is one of those.
 unfoldable pub answers : Table → ℕ → ℕ → Bool

@@ -2,10 +2,10 @@
 use mathlib.Core.Path.{_≡_}
 use mathlib.Core.Bool.{true, false}
 use Prim.Native.Nat.{_+_, _-_, _^_}
 use Rattle.scalar.specs.Signed.{signedLess, signExtended}
-use Rattle.scalar.specs.Compute.{computed}
+use Rattle.compute.specs.Compute.{computed}
 use Rattle.scalar.specs.declared.width.Width.the-variants.{Byte, Half, Word, Double}
-use Rattle.scalar.specs.declared.compute.Operator.the-variants.{Sub, Sra, Addw, Subw, Sllw, Srlw, Sraw}
+use Rattle.scalar.specs.declared.operator.Operator.the-variants.{Sub, Sra, Addw, Subw, Sllw, Srlw, Sraw}
 
 pub record Ends : Type 0 where
   pub leastIsLess : signedLess (2 ^ 63) (2 ^ 63 - 1) ≡ true

@@ -1,8 +1,8 @@
 use native.Mathlib.Omega.{arith}
 use borrow.Author.Needs.{needs}
-use Rattle.tables.proofs.Highest.{none-joined}
-use Rattle.tables.proofs.search.reach.Statement.{statement}
-use Rattle.tables.proofs.search.reach.Tie as tie
+use Rattle.search.proofs.Highest.{none-joined}
+use Rattle.search.proofs.reach.Statement.{statement}
+use Rattle.search.proofs.reach.Tie as tie
 
 returns : tie.Need-returns
 returns c =

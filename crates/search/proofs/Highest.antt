@@ -7,12 +7,12 @@ use lib.Dec.{ltb}
 use lib.ListN.{getD}
 use native.Mathlib.Omega.{arith}
 use borrow.Author.Tests.{lt-ltb, le-ltb, le-leb, lt-leb, ltb-true, ltb-false}
-use Rattle.tables.specs.declared.search.Table.{Table}
-use Rattle.tables.specs.declared.search.Held.the-variants.{At, Nothing}
+use Rattle.search.specs.declared.Table.{Table}
+use Rattle.search.specs.declared.Held.the-variants.{At, Nothing}
 use Rattle.tables.specs.Enabled.{enabledRange}
-use Rattle.tables.specs.Search.{answers, candidate, highest, held, NoneAnswers}
+use Rattle.search.specs.Search.{answers, candidate, highest, held, NoneAnswers}
 use Rattle.tables.proofs.Booleans.{and-left, and-right, not-true}
 use Rattle.tables.proofs.Ranges.{end-low}
 
 module _ (test : ℕ → Bool) where
   highest-yes : (i : ℕ) → 0 < i → test (i - 1) ≡ true → highest test i ≡ At (i - 1)

@@ -3,10 +3,10 @@ use mathlib.Core.Path.{_≡_}
 use mathlib.Core.Bool.{true}
 use native.Mathlib.Omega.{arith}
 use borrow.Author.Needs.{needs}
-use Rattle.tables.specs.Search.{NoneAnswers}
-use Rattle.tables.proofs.Highest.{none-more}
-use Rattle.tables.proofs.search.none_of_eight.Statement.{statement}
-use Rattle.tables.proofs.search.none_of_eight.Tie as tie
+use Rattle.search.specs.Search.{NoneAnswers}
+use Rattle.search.proofs.Highest.{none-more}
+use Rattle.search.proofs.none_of_eight.Statement.{statement}
+use Rattle.search.proofs.none_of_eight.Tie as tie
 
 abbrev Inv-loop : tie.InvT-loop
 Inv-loop table entries key first none₀ n₀ none n = (n ≤ 8) × (none ≡ true → NoneAnswers table entries key first (first + n))

@@ -1,26 +1,9 @@
+// What each operator of RV64I computes.
 ghost use mathlib.Core.Path.{_≡_};
-ghost use Rattle.scalar.specs.Compute.{computed};
-use crate::signed;
-use crate::width::Width;
-
-// The register-register operations of RV64I; the immediate forms share them.
-pub enum Operator {
-    Add,
-    Sub,
-    Sll,
-    Slt,
-    Sltu,
-    Xor,
-    Srl,
-    Sra,
-    Or,
-    And,
-    Addw,
-    Subw,
-    Sllw,
-    Srlw,
-    Sraw,
-}
+ghost use Rattle.compute.specs.Compute.{computed};
+use scalar::operator::Operator;
+use scalar::signed;
+use scalar::width::Width;
 
 // The result that `operator` writes for the operands a and b.
 pub fn compute(operator: Operator, a: u64, b: u64) -> u64

@@ -1,8 +1,8 @@
 -- The readings at both ends of the signed ranges, by computation.
 use mathlib.Core.Path.{refl}
 use Rattle.scalar.specs.Signed.{signedLess, arithmeticShift, signExtended}
-use Rattle.scalar.specs.Compute.{computed}
-use Rattle.scalar.specs.Ends.{Ends}
+use Rattle.compute.specs.Compute.{computed}
+use Rattle.compute.specs.Ends.{Ends}
 
 pub ends : Ends
 unfolding signedLess arithmeticShift signExtended computed

@@ -4,10 +4,10 @@ use lib.Dec.{ltb}
 use lib.Bits.{bitAnd, bitOr, bitXor}
 use mir.Syntax.{w32, w64}
 use mir.Val.{boolByte}
 use Rattle.scalar.specs.Signed.{lowWord, signedLess, arithmeticShift, signExtended}
 use Rattle.scalar.specs.declared.width.Width.the-variants.{Word}
-use Rattle.scalar.specs.declared.compute.Operator.{Operator}
-use Rattle.scalar.specs.declared.compute.Operator.the-variants.{Add, Sub, Sll, Slt, Sltu, Xor, Srl, Sra, Or, And, Addw, Subw, Sllw, Srlw, Sraw}
+use Rattle.scalar.specs.declared.operator.Operator.{Operator}
+use Rattle.scalar.specs.declared.operator.Operator.the-variants.{Add, Sub, Sll, Slt, Sltu, Xor, Srl, Sra, Or, And, Addw, Subw, Sllw, Srlw, Sraw}
 
 -- A shift is by the low 6 bits of b, in a W form by the low 5. A W form works on the low words and sign-extends the low word of its result.
 unfoldable pub computed : Operator → ℕ → ℕ → ℕ

@@ -1,9 +1,9 @@
 use native.Mathlib.Nat.{div-one}
 use borrow.Author.Needs.{needs}
-use Rattle.tables.specs.Search.{answers}
-use Rattle.tables.proofs.Fields.{register-fields, predicate-fields}
-use Rattle.tables.proofs.search.entry_answers.Statement.{statement}
-use Rattle.tables.proofs.search.entry_answers.Tie as tie
+use Rattle.search.specs.Search.{answers}
+use Rattle.search.proofs.Fields.{register-fields, predicate-fields}
+use Rattle.search.proofs.entry_answers.Statement.{statement}
+use Rattle.search.proofs.entry_answers.Tie as tie
 
 returns : tie.Need-returns
 unfolding answers

@@ -3,10 +3,10 @@ use borrow.Author.Needs.{needs}
 use mathlib.Core.Path.{ap, _∙_}
 use native.Mathlib.Omega.{arith}
 use mir.Val.{boolByte}
-use Rattle.scalar.specs.Compute.{computed}
+use Rattle.compute.specs.Compute.{computed}
 use Rattle.scalar.proofs.TwosComplement.{word-of-wrapped}
-use Rattle.scalar.proofs.compute.compute.Statement.{statement}
-use Rattle.scalar.proofs.compute.compute.Tie as tie
+use Rattle.compute.proofs.compute.Statement.{statement}
+use Rattle.compute.proofs.compute.Tie as tie
 
 pub compute-spec : {M : Type 1} → statement M
 unfolding computed

@@ -2,12 +2,12 @@ use Prim.Native.Nat.{_≤_, _-_}
 use mathlib.Core.Path.{_≡_, sym, _∙_}
 use native.Mathlib.Omega.{arith}
 use borrow.Author.Needs.{needs}
-use Rattle.tables.proofs.Highest.{held-below, held-yes, held-no, held-none}
+use Rattle.search.proofs.Highest.{held-below, held-yes, held-no, held-none}
 use Rattle.tables.proofs.Ranges.{end-low}
 use Rattle.tables.specs.Enabled.{enabledRange}
-use Rattle.tables.specs.Search.{candidate, highest, held}
-use Rattle.tables.proofs.search.held_for.Statement.{statement}
-use Rattle.tables.proofs.search.held_for.Tie as tie
+use Rattle.search.specs.Search.{candidate, highest, held}
+use Rattle.search.proofs.held_for.Statement.{statement}
+use Rattle.search.proofs.held_for.Tie as tie
 
 abbrev Inv-loop : tie.InvT-loop
 Inv-loop table entries cfg key first i₀ i = (i ≤ enabledRange cfg .end) × (held table entries cfg key ≡ highest (candidate table entries cfg key) i)
