@@ -16,9 +16,9 @@ use Rattle.machine.specs.Update.{withRoom, withRegisters, withState, withRegist
 use Rattle.machine.specs.Setting.{setStateWord}
 use Rattle.machine.specs.Reading.{readStateWord}
 use Rattle.machine.specs.Run.{system, withOffsets, run}
-use Rattle.demands.specs.Setting as call
-use Rattle.demands.specs.Setting.{Setting}
-use Rattle.demands.specs.Copy.{after}
+use Rattle.settings.specs.Setting as call
+use Rattle.settings.specs.Setting.{Setting}
+use Rattle.settings.specs.Copy.{after}
 
 -- ADD x5, x6, x7
 abbrev pub add : ℕ

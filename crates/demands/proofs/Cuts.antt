@@ -20,7 +20,7 @@ use Rattle.machine.specs.Shape.{inShape, Sized}
 use Rattle.machine.specs.Run.{System, contextOf, withContext, wordOn, prepare, unit, run}
 use Rattle.demands.specs.Premise.{IsMask, Apart}
 use Rattle.demands.specs.Cuts.{Between, nothing, copied, changed, CutKept}
-use Rattle.demands.proofs.Copy.{copy-kept}
+use Rattle.settings.proofs.Copy.{copy-kept}
 use Rattle.demands.proofs.Preparing.{Refusal, prepared-same}
 use Rattle.demands.proofs.Systems.{plan-of, plan-kept, sound-on, prepare-refusal, PlanOf}
 

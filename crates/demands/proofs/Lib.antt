@@ -1,9 +1,3 @@
-pub mod Settings
-pub mod Unchanged
-pub mod Shape
-pub mod StateWord
-pub mod Pasted
-pub mod Copy
 pub mod RegistersKept
 pub mod Units
 pub mod Preparing

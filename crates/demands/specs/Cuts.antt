@@ -11,7 +11,7 @@ use Rattle.walk.specs.Context.{pausing}
 use Rattle.machine.specs.declared.Machine.{Machine}
 use Rattle.machine.specs.Shape.{inShape, Sized}
 use Rattle.machine.specs.Run.{System, system, run}
-use Rattle.demands.specs.Copy.{restored}
+use Rattle.settings.specs.Copy.{restored}
 use Rattle.demands.specs.Premise.{Apart}
 
 -- What may happen between a paused call and the next: nothing, or registers, program counter, tables and state word are copied

@@ -1,8 +1,3 @@
-pub mod Setting
-pub mod Reading
-pub mod Shape
-pub mod StateWord
-pub mod Copy
 pub mod Premise
 pub mod Cuts
 pub mod Run

@@ -1,1 +1,1 @@
-// Theorems only: what the requirements claim of the definitions stands in specs/.
+// Theorems only: what the requirements claim of runs stands in specs/.

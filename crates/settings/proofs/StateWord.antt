@@ -15,9 +15,9 @@ use Rattle.machine.specs.Update.{withState}
 use Rattle.machine.specs.Setting.{setStateWord}
 use Rattle.machine.specs.Reading.{told, readStateWord}
 use Rattle.machine.proofs.Shapes.{parts}
-use Rattle.demands.specs.Setting.{Accepted, stateWord}
-use Rattle.demands.specs.StateWord.{ReadBack, StateWordKept}
-use Rattle.demands.proofs.Settings.{sound}
+use Rattle.settings.specs.Setting.{Accepted, stateWord}
+use Rattle.settings.specs.StateWord.{ReadBack, StateWordKept}
+use Rattle.settings.proofs.Settings.{sound}
 
 pub read-is : (m : Machine) → inShape m ≡ true → readStateWord m ≡ done m (wordOf (m .state))
 unfolding told accepts verdict

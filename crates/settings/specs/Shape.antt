@@ -3,8 +3,8 @@ use mathlib.Core.Path.{_≡_}
 use mathlib.Core.Bool.{true}
 use Rattle.machine.specs.declared.Machine.{Machine}
 use Rattle.machine.specs.Shape.{inShape, freshMachine}
-use Rattle.demands.specs.Setting.{Setting, set, Accepted}
-use Rattle.demands.specs.Reading.{Reading, read}
+use Rattle.settings.specs.Setting.{Setting, set, Accepted}
+use Rattle.settings.specs.Reading.{Reading, read}
 
 pub record ShapeKept : Type 0 where
   -- a fresh machine is in shape

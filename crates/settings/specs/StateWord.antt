@@ -10,7 +10,7 @@ use Rattle.machine.specs.Calls.{done}
 use Rattle.machine.specs.Shape.{inShape}
 use Rattle.machine.specs.Setting.{setStateWord}
 use Rattle.machine.specs.Reading.{readStateWord}
-use Rattle.demands.specs.Setting.{Accepted}
+use Rattle.settings.specs.Setting.{Accepted}
 
 -- A word that is read back has all 32 bits of the word that was set, but for VL, which is cut to MVL.
 pub record ReadBack (word : ℕ) (reply : Reply) : Type 0 where

@@ -21,10 +21,10 @@ use Rattle.machine.specs.Update.{withRegisters, withPc, withState, withRegister
 use Rattle.machine.specs.Setting.{setRegisterEntry, setPredicateEntry, setRegister, setPc, setStateWord}
 use Rattle.machine.specs.Reading.{told, readRegisterEntry, readPredicateEntry, readRegister, readPc, readStateWord}
 use Rattle.machine.proofs.Shapes.{parts}
-use Rattle.demands.specs.Copy.{after, carried, carriedBelow, restoredRoom, restored, CopyKept}
-use Rattle.demands.proofs.Settings.{registers-kept, tables-kept, pc-kept}
-use Rattle.demands.proofs.StateWord.{read-is, carried-word}
-use Rattle.demands.proofs.Pasted.{pasted, pasted-suc, pasted-whole}
+use Rattle.settings.specs.Copy.{after, carried, carriedBelow, restoredRoom, restored, CopyKept}
+use Rattle.settings.proofs.Settings.{registers-kept, tables-kept, pc-kept}
+use Rattle.settings.proofs.StateWord.{read-is, carried-word}
+use Rattle.settings.proofs.Pasted.{pasted, pasted-suc, pasted-whole}
 
 -- One array of the machine, whichever it is: `place` puts a list there, `Ok` says which lists keep the machine in shape.
 module _

@@ -3,9 +3,9 @@ use mathlib.Core.Path.{refl}
 use Rattle.tables.specs.Entry.{clearBelow}
 use Rattle.state_word.specs.State.{stateInShape}
 use Rattle.machine.specs.Shape.{inShape, roomInShape, tablesInShape}
-use Rattle.demands.specs.Shape.{ShapeKept}
-use Rattle.demands.proofs.Settings.{sound}
-use Rattle.demands.proofs.Unchanged.{unchanged}
+use Rattle.settings.specs.Shape.{ShapeKept}
+use Rattle.settings.proofs.Settings.{sound}
+use Rattle.settings.proofs.Unchanged.{unchanged}
 
 pub shape-kept : ShapeKept
 unfolding inShape roomInShape tablesInShape stateInShape clearBelow

@@ -9,7 +9,7 @@ use Rattle.machine.specs.declared.Reply.{Reply}
 use Rattle.machine.specs.Calls.{refuse, guarded}
 use Rattle.machine.specs.Shape.{inShape}
 use Rattle.machine.specs.Reading.{told, readRegisterEntry, readPredicateEntry, readRegister}
-use Rattle.demands.specs.Reading.{Reading, vl, mvl, cfg, registerEntry, predicateEntry, register, pc, stateWord, read}
+use Rattle.settings.specs.Reading.{Reading, vl, mvl, cfg, registerEntry, predicateEntry, register, pc, stateWord, read}
 
 keeping : (m : Machine) (reply : Reply) (placed good : Bool) → reply .machine ≡ m → guarded m placed good reply .machine ≡ m
 keeping m reply placed good same = by (accepts (verdict (inShape m) placed good))

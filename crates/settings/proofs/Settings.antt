@@ -23,7 +23,7 @@ use Rattle.machine.specs.Shape.{inShape}
 use Rattle.machine.specs.Update.{withState, withRegisters, withPc, withTables}
 use Rattle.machine.specs.Setting.{setVl, setVlImmediate, setMvl, setCfg, setRegisterEntry, setPredicateEntry, setRegister, setPc, setStateWord}
 use Rattle.machine.proofs.Shapes.{parts, in-shape}
-use Rattle.demands.specs.Setting.{Setting, vl, vlImmediate, mvl, cfg, registerEntry, predicateEntry, register, pc, stateWord, set, Accepted}
+use Rattle.settings.specs.Setting.{Setting, vl, vlImmediate, mvl, cfg, registerEntry, predicateEntry, register, pc, stateWord, set, Accepted}
 
 -- a machine in shape stays so when one part is replaced by one in shape
 module _ (m : Machine) (h : inShape m ≡ true) where
