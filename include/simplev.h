@@ -1,8 +1,8 @@
 /* simplev.h: the trap handler for Simple-V on RV64, as C calls it.
  *
  * The caller owns a machine, `struct simplev_machine`, and a memory of bytes, and lends both to each call, which works
- * on them in place. The library keeps nothing and allocates nothing, and needs nothing of C's but `memset`. A call may be
- * made from any thread, as long as no other call has the same machine or memory at that time.
+ * on them in place. The library keeps nothing and allocates nothing, and needs nothing of C's but `memset` and
+ * `memcpy`. A call may be made from any thread, as long as no other call has the same machine or memory at that time.
  *
  * Link with libembed.a (`rt staticlib embed` writes target/staticlib/libembed.a).
  *
