@@ -41,6 +41,7 @@ module _
     pasted-ok (suc n) h = keeps (pasted n from to) n (omega arith) (pasted-ok n (omega arith))
 
     carried-one : (l : List ℕ) (n : ℕ) → n < size → Ok l → carried (λ m. reading m n) (λ m v. setting m n v) saved (place l) ≡ done (place (set l n (getD from n 0))) 0
+    unfolding accepts
     carried-one l n h k = rw (reads n h) (sets l n h k)
 
     carried-suc : (n : ℕ) (reply : Reply) → carriedBelow (suc n) reading setting saved reply ≡ after (carriedBelow n reading setting saved reply) (carried (λ m. reading m n) (λ m v. setting m n v) saved)
@@ -48,6 +49,7 @@ module _
     carried-suc n reply = refl
 
     carried-to : (n : ℕ) → n ≤ size → carriedBelow n reading setting saved (done (place to) 0) ≡ done (place (pasted n from to)) 0
+    unfolding accepts
     carried-to zero h = unfold carriedBelow pasted in refl
     carried-to (suc n) h =
         carried-suc n (done (place to) 0)
@@ -112,10 +114,11 @@ module _ (saved host : Machine) (s : inShape saved ≡ true) (h : inShape host �
   program-counter = rw (s, h)
 
   state-word : carried readStateWord setStateWord saved host ≡ done (withState host (saved .state)) 0
+  unfolding accepts
   state-word = rw (read-is saved s) (carried-word saved host s h)
 
 pub copy-kept : CopyKept
-unfolding restored
+unfolding restored accepts
 copy-kept saved host f t s h =
     let p = parts saved s in
     let m1 = withRegisterTable host (saved .«register_table») in

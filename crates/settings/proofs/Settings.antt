@@ -1,7 +1,7 @@
 -- What an accepted setting leaves is in shape, and what a refused one leaves is what came in.
 use Prim.Native.Nat.{ℕ, _+_}
-use mathlib.Core.Path.{_≡_, refl}
-use mathlib.Core.Bool.{Bool, true, false, cond, _&&_}
+use mathlib.Core.Path.{_≡_, refl, sym}
+use mathlib.Core.Bool.{Bool, true, false, cond, _&&_, true≢false}
 use mathlib.Core.List.{List}
 use lib.Dec.{leb, ltb}
 use lib.ListN.{getD}
@@ -54,6 +54,7 @@ pub record Sound (m : Machine) (reply : Reply) : Type 0 where
 
 -- a call that comes to its end is accepted
 ended : {m after : Machine} {value : ℕ} → inShape after ≡ true → Sound m (done after value)
+unfolding accepts
 ended h = record { accepted = λ a. h; refused = λ r. absurd (r refl) }
 
 -- the tests refuse, or the rest of the call decides
@@ -62,9 +63,9 @@ tested :
     Sound m (cond (accepts (verdict shaped placed good)) reply (refuse m (verdict shaped placed good)))
 unfolding accepts verdict
 tested true true true then = then refl refl
-tested true true false then = record { accepted = λ a. absurd (omega arith); refused = λ r. refl }
-tested true false good then = record { accepted = λ a. absurd (omega arith); refused = λ r. refl }
-tested false placed good then = record { accepted = λ a. absurd (omega arith); refused = λ r. refl }
+tested true true false then = record { accepted = λ a. absurd (true≢false (sym a)); refused = λ r. refl }
+tested true false good then = record { accepted = λ a. absurd (true≢false (sym a)); refused = λ r. refl }
+tested false placed good then = record { accepted = λ a. absurd (true≢false (sym a)); refused = λ r. refl }
 
 if-guarded :
     {m : Machine} {reply : Reply} (placed good : Bool) → (inShape m ≡ true → good ≡ true → Sound m reply) →

@@ -1,7 +1,7 @@
 -- The claims about the state word hold.
 use Prim.Native.Nat.{ℕ}
-use mathlib.Core.Path.{_≡_, refl}
-use mathlib.Core.Bool.{Bool, true, false, cond}
+use mathlib.Core.Path.{_≡_, refl, sym}
+use mathlib.Core.Bool.{Bool, true, false, cond, true≢false}
 use native.Mathlib.Omega.{arith}
 use Rattle.state_word.specs.State.{fields, wordOf, cut, goodWord}
 use Rattle.state_word.proofs.States.{fields-back, cut-same, good-back, mvl-back, vl-back, rest-back, word-kept}
@@ -36,9 +36,9 @@ passed :
     (shaped ≡ true) × (good ≡ true)
 unfolding accepts verdict
 passed reply m true true true a = (refl, refl)
-passed reply m true true false a = absurd (omega arith)
-passed reply m true false good a = absurd (omega arith)
-passed reply m false placed good a = absurd (omega arith)
+passed reply m true true false a = absurd (true≢false (sym a))
+passed reply m true false good a = absurd (true≢false (sym a))
+passed reply m false placed good a = absurd (true≢false (sym a))
 
 -- the word of one machine in shape, written into any other
 pub carried-word :
@@ -63,7 +63,7 @@ read-back m word a =
     let o : inShape after ≡ true = rw e at (sound m (stateWord word) .accepted a) in
     let k = word-kept word g in
     rw (e, read-is after o) (record {
-      answered = refl;
+      answered = unfold accepts in refl;
       mvl = unfold fields in omega (arith, mvl-back (cut (fields word)) k);
       vl = unfold fields in omega (arith, vl-back (cut (fields word)) k);
       rest = rest-back word g;

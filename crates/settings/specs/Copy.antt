@@ -2,10 +2,9 @@
 use Prim.Native.Nat.{ℕ, zero, suc}
 use mathlib.Core.Path.{_≡_}
 use mathlib.Core.Bool.{cond, true}
-use lib.Dec.{eqb}
 use Rattle.machine.specs.declared.Machine.{Machine}
 use Rattle.machine.specs.declared.Reply.{Reply}
-use Rattle.answers.specs.Answer.{numberOf, valueOf}
+use Rattle.answers.specs.Answer.{accepts, valueOf}
 use Rattle.machine.specs.Calls.{refuse, done}
 use Rattle.machine.specs.Shape.{inShape, Sized}
 use Rattle.machine.specs.Setting.{setRegisterEntry, setPredicateEntry, setRegister, setPc, setStateWord}
@@ -13,7 +12,7 @@ use Rattle.machine.specs.Reading.{readRegisterEntry, readPredicateEntry, readRe
 
 -- one call after another: the first that does not answer 0 is the last
 abbrev pub after : Reply → (Machine → Reply) → Reply
-after reply next = cond (eqb (numberOf (reply .answer)) 0) (next (reply .machine)) reply
+after reply next = cond (accepts (reply .answer)) (next (reply .machine)) reply
 
 -- what a reading call says of the saved machine, set in the host
 abbrev pub carried : (Machine → Reply) → (Machine → ℕ → Reply) → Machine → Machine → Reply

@@ -3,7 +3,8 @@ use Prim.Native.Nat.{ℕ}
 use mathlib.Core.Path.{_≡_}
 use Rattle.machine.specs.declared.Machine.{Machine}
 use Rattle.machine.specs.declared.Reply.{Reply}
-use Rattle.answers.specs.Answer.{numberOf}
+use mathlib.Core.Bool.{true}
+use Rattle.answers.specs.Answer.{accepts}
 use Rattle.machine.specs.Setting as call
 
 pub data Setting : Type 0 where
@@ -28,6 +29,6 @@ set m (register i value) = call.setRegister m i value
 set m (pc value) = call.setPc m value
 set m (stateWord word) = call.setStateWord m word
 
--- answer 0
+-- its answer is 0
 abbrev pub Accepted : Reply → Type 0
-Accepted reply = numberOf (reply .answer) ≡ 0
+Accepted reply = accepts (reply .answer) ≡ true
