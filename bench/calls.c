@@ -106,9 +106,9 @@ static void times(const struct bench *b, unsigned vl)
 {
     double least[3] = { 1e18, 1e18, 1e18 };
     start(b, vl);
-    for (int round = 0; round < 15; round++)
+    for (int round = 0; round < 400; round++)
         for (int h = 0; h < 3; h++) {
-            double t = nanoseconds(&handlers[h], b, 3000);
+            double t = nanoseconds(&handlers[h], b, 400);
             if (t < least[h])
                 least[h] = t;
         }
