@@ -31,10 +31,12 @@ abbrev pub extended : Bool → Width → ℕ → ℕ
 extended true width value = signExtended width value
 extended false width value = value
 
+-- the same of what a load answers
 abbrev pub widened : Bool → Width → Loaded → Loaded
 widened signed width (Value value) = Value (extended signed width value)
 widened signed width Outside = Outside
 
+-- what a load of some width brings from an address
 unfoldable pub fetched : List ℕ → ℕ → Width → Bool → Loaded
 fetched memory address width signed = widened signed width (loaded memory address (bytesOf width))
 
