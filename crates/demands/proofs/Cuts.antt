@@ -80,8 +80,8 @@ module _ (word : ℕ) (plan : Plan) where
 -- the copy gives back a machine in shape
 copy-same : (word : ℕ) (b : Between) (plan : Plan) (s : System) → ReadyFor (prepare word) (Keep word) plan s → changed b s ≡ s
 copy-same word nothing plan s r = refl
-copy-same word (copied host sized shaped) plan s (e, k) =
-    rw (copy-kept (s .machine) host (k .sized) sized (plan-of word s plan e .shaped) shaped)
+copy-same word (copied ps whole host sized shaped) plan s (e, k) =
+    rw (copy-kept ps whole (s .machine) host (k .sized) sized (plan-of word s plan e .shaped) shaped)
 
 cuttable : (word : ℕ) → Cuttable pausing (prepare word) unit changed (Keep word)
 cuttable word = record {

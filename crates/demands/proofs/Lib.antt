@@ -7,6 +7,10 @@ pub mod Cuts
 pub mod Advance
 pub mod Bound
 pub mod Faults
+pub mod Runs
+pub mod Stands
 pub mod Run
 pub mod Masks
-pub mod PastRegisters
+pub mod Named
+pub mod Tested
+pub mod Refusals

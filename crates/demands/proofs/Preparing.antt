@@ -14,6 +14,7 @@ use Rattle.decode.specs.declared.decoded.Named.{Named}
 use Rattle.decode.specs.declared.decoded.Decoded.{Decoded}
 use Rattle.decode.specs.declared.decoded.Decoded.the-variants.{Operation, Move, Load, Store, Unknown}
 use Rattle.tables.specs.Entry.{predicateEntry}
+use Rattle.operands.specs.declared.place.Place.{Place}
 use Rattle.operands.specs.Place.{placeOf, registerAt}
 use Rattle.operands.specs.Mask.{maskBy}
 use Rattle.pausable.specs.Call.{Prepared, refused, ready}
@@ -34,14 +35,20 @@ served-plan vl word made plan = by (every narrow (operandsOf word)) (every (fitt
     by true false e = let z : _≡_ {A = ℕ} 0 1 = cc in absurd (omega arith)
     by false b e = let z : _≡_ {A = ℕ} 0 1 = cc in absurd (omega arith)
 
+-- a later position's register is no lower
+registers-rise : (p : Place) (i j : ℕ) → i ≤ j → (p .register ≤ registerAt p i) × (registerAt p i ≤ registerAt p j)
+unfolding registerAt
+registers-rise p i j h = by (p .vector)
+  where
+    by :
+        (t : Bool) →
+        (p .register ≤ cond t (p .register + i) (p .register)) × (cond t (p .register + i) (p .register) ≤ cond t (p .register + j) (p .register))
+    by true = (omega arith, omega arith)
+    by false = (omega arith, omega arith)
+
 -- the registers of an operand's positions
 pub spans : (vl : ℕ) (n : Named) (i : ℕ) → i < vl → Spans vl (registerAt (placeOf (n .operand)) i) n
-unfolding registerAt
-spans vl n i h = by (placeOf (n .operand) .vector) (placeOf (n .operand) .register)
-  where
-    by : (t : Bool) (r : ℕ) → (r ≤ cond t (r + i) r) × (cond t (r + i) r ≤ cond t (r + (vl - 1)) r)
-    by true r = (omega arith, omega arith)
-    by false r = (omega arith, omega arith)
+spans vl n i h = registers-rise (placeOf (n .operand)) i _ (omega arith)
 
 module _ (registers again : List ℕ) where
   abbrev SameAt : Named → Type 0

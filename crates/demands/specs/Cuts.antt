@@ -11,18 +11,19 @@ use Rattle.walk.specs.Context.{pausing}
 use Rattle.machine.specs.declared.Machine.{Machine}
 use Rattle.machine.specs.Shape.{inShape, Sized}
 use Rattle.machine.specs.Run.{System, system, run}
-use Rattle.settings.specs.Copy.{restored}
+use Rattle.settings.specs.Copy.{Part, Whole, restored}
 use Rattle.demands.specs.Premise.{Apart}
 
 -- What may happen between a paused call and the next: nothing, or registers, program counter, tables and state word are copied
--- out by the reading calls and written back by the setting calls into any machine in shape. Memory is not touched.
+-- out by the reading calls and written back by the setting calls into any machine in shape, part by part in any order. Memory is
+-- not touched.
 pub data Between : Type 0 where
   nothing : Between
-  copied : (host : Machine) → Sized host → inShape host ≡ true → Between
+  copied : (ps : List Part) → Whole ps → (host : Machine) → Sized host → inShape host ≡ true → Between
 
 abbrev pub changed : Between → System → System
 changed nothing s = s
-changed (copied host sized shaped) s = system (restored (s .machine) host .machine) (s .memory)
+changed (copied ps whole host sized shaped) s = system (restored ps (s .machine) host .machine) (s .memory)
 
 -- a list of runs of one word, each but the first made only where the last one paused
 abbrev pub runs : ℕ → ℕ → List (Further Between) → System → Outcome Answer System

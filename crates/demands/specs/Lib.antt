@@ -2,4 +2,4 @@ pub mod Premise
 pub mod Cuts
 pub mod Run
 pub mod Masks
-pub mod PastRegisters
+pub mod Refusals

@@ -1,6 +1,5 @@
 -- The premise of demand 3: no mask register set for an operand lies among the registers that the instruction may write.
 use Prim.Native.Nat.{ℕ, _-_, _≤_}
-use mathlib.Core.Logic.{_⊎_}
 use mathlib.Core.Path.{_≡_}
 use mathlib.Core.List.{List, [], _∷_}
 use Rattle.decode.specs.declared.decoded.Named.{Named}
@@ -11,11 +10,15 @@ use Rattle.operands.specs.Place.{placeOf, registerAt}
 use Rattle.plans.specs.Operands.{operandsOf}
 use Rattle.machine.specs.declared.Machine.{Machine}
 use Rattle.machine.specs.Run.{wordOn}
+use Rattle.settings.specs.Lists.{Some}
 
--- some operand of a list has Q
-abbrev pub Some : (Named → Type 0) → List Named → Type 0
-Some Q [] = ⊥
-Some Q (n ∷ ns) = Q n ⊎ Some Q ns
+-- a store has no destination
+abbrev pub destinationsOf : Decoded → List Named
+destinationsOf (Operation w) = w .destination ∷ []
+destinationsOf (Move w) = w .destination ∷ []
+destinationsOf (Load w) = w .destination ∷ []
+destinationsOf (Store w) = []
+destinationsOf Unknown = []
 
 -- The mask register set for an operand is the one in the predicate entry that holds for it.
 abbrev pub MaskSet : ℕ → Named → Type 0
@@ -28,14 +31,6 @@ IsMask word r = Some (MaskSet r) (operandsOf word)
 abbrev pub Spans : ℕ → ℕ → Named → Type 0
 Spans vl r n =
     (placeOf (n .operand) .register ≤ r) × (r ≤ registerAt (placeOf (n .operand)) (vl - 1))
-
--- a store has no destination
-abbrev pub destinationsOf : Decoded → List Named
-destinationsOf (Operation w) = w .destination ∷ []
-destinationsOf (Move w) = w .destination ∷ []
-destinationsOf (Load w) = w .destination ∷ []
-destinationsOf (Store w) = []
-destinationsOf Unknown = []
 
 -- the registers that an instruction may write
 abbrev pub MayWrite : ℕ → Decoded → ℕ → Type 0

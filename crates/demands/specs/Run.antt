@@ -45,12 +45,16 @@ pub record StandsAtFault (word n : ℕ) (s : System) : Type 0 where
   pub pair : pairAt plan (positionOf (run word units s .state .machine)) ≡ Found source destination
   pub left : run word n s .state ≡ standingAt (run word units s .state) source destination
 
-pub record RunSound : Type 0 where
+-- what a run from s answers and leaves, o
+pub record Sound (s : System) (o : Outcome Answer System) : Type 0 where
   -- the answer is one of the table's for a run, and the returned address is 0 except with 5
-  pub answer : (word n : ℕ) (s : System) → numberOf (run word n s .answer) ≤ 6
-  pub value : (word n : ℕ) (s : System) → (numberOf (run word n s .answer) ≡ 5 → ⊥) → valueOf (run word n s .answer) ≡ 0
+  pub answer : numberOf (o .answer) ≤ 6
+  pub value : (numberOf (o .answer) ≡ 5 → ⊥) → valueOf (o .answer) ≡ 0
   -- a refusal leaves machine and memory as they were
-  pub refused : (word n : ℕ) (s : System) → refuses (run word n s .answer) ≡ true → run word n s .state ≡ s
-  pub fault : (word n : ℕ) (s : System) → numberOf (run word n s .answer) ≡ 5 → StandsAtFault word n s
+  pub refused : refuses (o .answer) ≡ true → o .state ≡ s
   -- a machine in shape stays in shape
-  pub shape : (word n : ℕ) (s : System) → inShape (s .machine) ≡ true → inShape (run word n s .state .machine) ≡ true
+  pub shape : inShape (s .machine) ≡ true → inShape (o .state .machine) ≡ true
+
+pub record RunSound : Type 0 where
+  pub sound : (word n : ℕ) (s : System) → Sound s (run word n s)
+  pub fault : (word n : ℕ) (s : System) → numberOf (run word n s .answer) ≡ 5 → StandsAtFault word n s

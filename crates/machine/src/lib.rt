@@ -1,6 +1,6 @@
 // The machine by value, and the calls that set and read it.
 ghost use mathlib.Core.Path.{_≡_};
-ghost use Rattle.machine.specs.Shape.{freshMachine, inShape};
+ghost use Rattle.machine.specs.Shape.{freshMachine, inShape, Sized};
 ghost use Rattle.answers.specs.Verdict.{verdict};
 ghost use Rattle.machine.specs.Calls.{refuse, done};
 use answers::Answer;
@@ -52,6 +52,13 @@ impl Machine {
             register_table: [0; Machine::ENTRIES],
             predicate_table: [0; Machine::ENTRIES],
         }
+    }
+
+    // The machine itself. Its arrays have their lengths, whatever it holds: a theorem that takes `Sized` as a premise has it here.
+    pub fn sized(self) -> Machine
+        ensures { λ r. ⌜ (r ≡ self) × Sized self ⌝ }
+    {
+        self
     }
 
     // Whether none of the reasons of answer 6 applies.

@@ -1,6 +1,9 @@
+pub mod Guards
 pub mod Settings
-pub mod Unchanged
-pub mod Shape
+pub mod Readings
+pub mod Calls
 pub mod StateWord
-pub mod Pasted
+pub mod Parts
+pub mod Steps
 pub mod Copy
+pub mod Orders

@@ -1,7 +1,8 @@
--- What an accepted setting leaves is in shape, and what a refused one leaves is what came in.
+-- What holds of every setting call.
 use Prim.Native.Nat.{ℕ, _+_}
-use mathlib.Core.Path.{_≡_, refl, sym}
-use mathlib.Core.Bool.{Bool, true, false, cond, _&&_, true≢false}
+use mathlib.Core.Path.{_≡_, refl, sym, _∙_}
+use mathlib.Core.Logic.{inl, inr}
+use mathlib.Core.Bool.{Bool, true, false, _&&_, true≢false}
 use mathlib.Core.List.{List}
 use lib.Dec.{leb, ltb}
 use lib.ListN.{getD}
@@ -16,14 +17,17 @@ use Rattle.tables.proofs.Clear.{clear-set}
 use Rattle.state_word.proofs.States.{vl-kept, mvl-kept, cfg-kept, word-kept}
 use Rattle.machine.specs.declared.Machine.{Machine}
 use Rattle.machine.specs.declared.Reply.{Reply}
-use Rattle.answers.specs.Answer.{accepts}
-use Rattle.answers.specs.Verdict.{verdict}
+use Rattle.answers.specs.declared.Answer.{Answer}
+use Rattle.answers.specs.Answer.{numberOf, valueOf, accepts}
 use Rattle.machine.specs.Calls.{refuse, done, guarded}
 use Rattle.machine.specs.Shape.{inShape}
 use Rattle.machine.specs.Update.{withState, withRegisters, withPc, withTables}
 use Rattle.machine.specs.Setting.{setVl, setVlImmediate, setMvl, setCfg, setRegisterEntry, setPredicateEntry, setRegister, setPc, setStateWord}
 use Rattle.machine.proofs.Shapes.{parts, in-shape}
-use Rattle.settings.specs.Setting.{Setting, vl, vlImmediate, mvl, cfg, registerEntry, predicateEntry, register, pc, stateWord, set, Accepted}
+use Rattle.settings.specs.Setting.{Setting, vl, vlImmediate, mvl, cfg, registerEntry, predicateEntry, register, pc, stateWord, set, returned}
+use Rattle.settings.specs.Lists.{Among}
+use Rattle.settings.specs.Calls.{settingAnswers, SettingSound}
+use Rattle.settings.proofs.Guards.{by-guard}
 
 -- a machine in shape stays so when one part is replaced by one in shape
 module _ (m : Machine) (h : inShape m ≡ true) where
@@ -47,53 +51,54 @@ module _ (m : Machine) (h : inShape m ≡ true) where
       let p = parts m h in
       in-shape (withPc m value) (record { state = p .state; zero-register = p .zero-register; tables = p .tables })
 
--- what is claimed of a setting call on m that gives this reply
-pub record Sound (m : Machine) (reply : Reply) : Type 0 where
-  pub accepted : Accepted reply → inShape (reply .machine) ≡ true
-  pub refused : (Accepted reply → ⊥) → reply .machine ≡ m
-
 -- a call that comes to its end is accepted
-ended : {m after : Machine} {value : ℕ} → inShape after ≡ true → Sound m (done after value)
+ended :
+    {m after : Machine} {s : Setting} {value : ℕ} → inShape after ≡ true → value ≡ returned s after →
+    SettingSound m s (done after value)
 unfolding accepts
-ended h = record { accepted = λ a. h; refused = λ r. absurd (r refl) }
+ended h e = record { answer = inl refl; accepted = λ a. h; value = λ a. e; refused = λ r. absurd (r refl) }
 
 -- the tests refuse, or the rest of the call decides
-tested :
-    {m : Machine} {reply : Reply} (shaped placed good : Bool) → (shaped ≡ true → good ≡ true → Sound m reply) →
-    Sound m (cond (accepts (verdict shaped placed good)) reply (refuse m (verdict shaped placed good)))
-unfolding accepts verdict
-tested true true true then = then refl refl
-tested true true false then = record { accepted = λ a. absurd (true≢false (sym a)); refused = λ r. refl }
-tested true false good then = record { accepted = λ a. absurd (true≢false (sym a)); refused = λ r. refl }
-tested false placed good then = record { accepted = λ a. absurd (true≢false (sym a)); refused = λ r. refl }
-
 if-guarded :
-    {m : Machine} {reply : Reply} (placed good : Bool) → (inShape m ≡ true → good ≡ true → Sound m reply) →
-    Sound m (guarded m placed good reply)
-if-guarded {m} placed good = tested (inShape m) placed good
+    {m : Machine} {s : Setting} {reply : Reply} (placed good : Bool) →
+    (inShape m ≡ true → good ≡ true → SettingSound m s reply) → SettingSound m s (guarded m placed good reply)
+unfolding accepts
+if-guarded {m} {s} placed good =
+    by-guard (SettingSound m s) placed good (refuses (inr (inl refl)) refl refl)
+    (λ p. refuses (inr (inr (inr (inl refl)))) refl refl) (λ g. refuses (inr (inr (inl refl))) refl refl)
+  where
+    refuses :
+        {a : Answer} → Among (numberOf a) settingAnswers → accepts a ≡ false → valueOf a ≡ 0 →
+        SettingSound m s (refuse m a)
+    refuses known e zero = record {
+      answer = known;
+      accepted = λ a. absurd (true≢false (sym a ∙ e));
+      value = λ a. absurd (true≢false (sym a ∙ e));
+      refused = λ r. record { machine = refl; value = zero };
+    }
 
-pub sound : (m : Machine) (s : Setting) → Sound m (set m s)
+pub setting-sound : (m : Machine) (s : Setting) → SettingSound m s (set m s)
 unfolding setVl setVlImmediate setMvl setCfg setRegisterEntry setPredicateEntry setRegister setPc setStateWord
-sound m (vl n) =
+setting-sound m (vl n) =
     if-guarded true (leb 1 n)
-    (λ h e. ended (state-kept m h _ (vl-kept (m .state) (parts m h .state) n (leb-true 1 n e))))
-sound m (vlImmediate n) =
+    (λ h e. ended (state-kept m h _ (vl-kept (m .state) (parts m h .state) n (leb-true 1 n e))) refl)
+setting-sound m (vlImmediate n) =
     if-guarded true (leb n 31)
-    (λ h e. ended (state-kept m h _ (vl-kept (m .state) (parts m h .state) (n + 1) (omega arith))))
-sound m (mvl n) =
+    (λ h e. ended (state-kept m h _ (vl-kept (m .state) (parts m h .state) (n + 1) (omega arith))) refl)
+setting-sound m (mvl n) =
     if-guarded true (leb 1 n && leb n 64) (λ h e. ended (state-kept m h _
-    (mvl-kept (m .state) (parts m h .state) n (leb-true 1 n (and-left _ _ e)) (leb-true n 64 (and-right (leb 1 n) _ e)))))
-sound m (cfg n) =
+    (mvl-kept (m .state) (parts m h .state) n (leb-true 1 n (and-left _ _ e)) (leb-true n 64 (and-right (leb 1 n) _ e)))) refl)
+setting-sound m (cfg n) =
     if-guarded true (leb n 31)
-    (λ h e. ended (state-kept m h _ (cfg-kept (m .state) (parts m h .state) n (leb-true n 31 e))))
-sound m (registerEntry i entry) =
-    if-guarded (ltb i 16) true (λ h e. ended (tables-kept m h _ _ (parts m h .tables)))
-sound m (predicateEntry i entry) =
+    (λ h e. ended (state-kept m h _ (cfg-kept (m .state) (parts m h .state) n (leb-true n 31 e))) refl)
+setting-sound m (registerEntry i entry) =
+    if-guarded (ltb i 16) true (λ h e. ended (tables-kept m h _ _ (parts m h .tables)) refl)
+setting-sound m (predicateEntry i entry) =
     if-guarded (ltb i 16) (bit0Clear entry)
-    (λ h e. ended (tables-kept m h _ _ (clear-set (m .«predicate_table») i entry e 16 (parts m h .tables))))
-sound m (register i value) =
+    (λ h e. ended (tables-kept m h _ _ (clear-set (m .«predicate_table») i entry e 16 (parts m h .tables))) refl)
+setting-sound m (register i value) =
     if-guarded (ltb i 128) true
-    (λ h e. ended (registers-kept m h _ (zero-kept (m .registers) i value (parts m h .zero-register))))
-sound m (pc value) = if-guarded true true (λ h e. ended (pc-kept m h value))
-sound m (stateWord word) =
-    if-guarded true (goodWord word) (λ h e. ended (state-kept m h _ (word-kept word e)))
+    (λ h e. ended (registers-kept m h _ (zero-kept (m .registers) i value (parts m h .zero-register))) refl)
+setting-sound m (pc value) = if-guarded true true (λ h e. ended (pc-kept m h value) refl)
+setting-sound m (stateWord word) =
+    if-guarded true (goodWord word) (λ h e. ended (state-kept m h _ (word-kept word e)) refl)

@@ -1,48 +1,89 @@
--- Copying a machine out by the reading calls and back by the setting calls.
-use Prim.Native.Nat.{ℕ, zero, suc}
+-- Copying a machine out by the reading calls and back by the setting calls, in any order.
+use Prim.Native.Nat.{ℕ, zero, suc, _<_}
 use mathlib.Core.Path.{_≡_}
 use mathlib.Core.Bool.{cond, true}
+use mathlib.Core.List.{List, [], _∷_, _++_}
+use Rattle.answers.specs.Answer.{accepts, valueOf}
 use Rattle.machine.specs.declared.Machine.{Machine}
 use Rattle.machine.specs.declared.Reply.{Reply}
-use Rattle.answers.specs.Answer.{accepts, valueOf}
 use Rattle.machine.specs.Calls.{refuse, done}
 use Rattle.machine.specs.Shape.{inShape, Sized}
-use Rattle.machine.specs.Setting.{setRegisterEntry, setPredicateEntry, setRegister, setPc, setStateWord}
-use Rattle.machine.specs.Reading.{readRegisterEntry, readPredicateEntry, readRegister, readPc, readStateWord}
+use Rattle.settings.specs.Lists.{Among}
+use Rattle.settings.specs.Reading as out
+use Rattle.settings.specs.Reading.{Reading, read}
+use Rattle.settings.specs.Setting as back
+use Rattle.settings.specs.Setting.{Setting, set}
 
 -- one call after another: the first that does not answer 0 is the last
 abbrev pub after : Reply → (Machine → Reply) → Reply
 after reply next = cond (accepts (reply .answer)) (next (reply .machine)) reply
 
--- what a reading call says of the saved machine, set in the host
-abbrev pub carried : (Machine → Reply) → (Machine → ℕ → Reply) → Machine → Machine → Reply
-carried reading setting saved host =
-    after (refuse host (reading saved .answer)) (λ m. setting m (valueOf (reading saved .answer)))
+-- what one reading call and one setting call copy
+pub data Part : Type 0 where
+  registerEntry : ℕ → Part
+  predicateEntry : ℕ → Part
+  register : ℕ → Part
+  pc : Part
+  stateWord : Part
 
--- the same at each index below n
-unfoldable pub carriedBelow : ℕ → (Machine → ℕ → Reply) → (Machine → ℕ → ℕ → Reply) → Machine → Reply → Reply
-carriedBelow zero reading setting saved reply = reply
-carriedBelow (suc n) reading setting saved reply =
-    after (carriedBelow n reading setting saved reply) (carried (λ m. reading m n) (λ m value. setting m n value) saved)
+abbrev pub readingOf : Part → Reading
+readingOf (registerEntry i) = out.registerEntry i
+readingOf (predicateEntry i) = out.predicateEntry i
+readingOf (register i) = out.register i
+readingOf pc = out.pc
+readingOf stateWord = out.stateWord
 
--- both tables whole
-abbrev pub restoredTables : Machine → Reply → Reply
-restoredTables saved reply =
-    carriedBelow 16 readPredicateEntry setPredicateEntry saved
-    (carriedBelow 16 readRegisterEntry setRegisterEntry saved reply)
+abbrev pub settingOf : Part → ℕ → Setting
+settingOf (registerEntry i) value = back.registerEntry i value
+settingOf (predicateEntry i) value = back.predicateEntry i value
+settingOf (register i) value = back.register i value
+settingOf pc value = back.pc value
+settingOf stateWord value = back.stateWord value
 
--- what one hearing has of its own: every register, the program counter and the state word
-abbrev pub restoredRoom : Machine → Reply → Reply
-restoredRoom saved reply =
-    after
-    (after (carriedBelow 128 readRegister setRegister saved reply) (carried readPc setPc saved))
-    (carried readStateWord setStateWord saved)
+-- what the reading call says of the saved machine, set in the host
+abbrev pub carried : Machine → Part → Machine → Reply
+carried saved p host =
+    let said = read saved (readingOf p) .answer in
+    after (refuse host said) (λ m. set m (settingOf p (valueOf said)))
 
-unfoldable pub restored : Machine → Machine → Reply
-restored saved host = restoredRoom saved (restoredTables saved (done host 0))
+unfoldable pub restored : List Part → Machine → Machine → Reply
+restored [] saved host = done host 0
+restored (p ∷ ps) saved host = after (carried saved p host) (restored ps saved)
+
+-- every register, both tables whole, the program counter and the state word
+abbrev pub IsPart : Part → Type 0
+IsPart (registerEntry i) = i < 16
+IsPart (predicateEntry i) = i < 16
+IsPart (register i) = i < 128
+IsPart pc = Unit
+IsPart stateWord = Unit
+
+-- A list that names every part, and nothing else; the order is free, and so are repeats.
+pub record Whole (ps : List Part) : Type 0 where
+  pub every : (p : Part) → IsPart p → Among p ps
+  pub only : (p : Part) → Among p ps → IsPart p
 
 -- For any two machines in shape the copy gives the first, every call answering 0.
 abbrev pub CopyKept : Type 0
 CopyKept =
-    (saved host : Machine) → Sized saved → Sized host → inShape saved ≡ true → inShape host ≡ true →
-    restored saved host ≡ done saved 0
+    (ps : List Part) → Whole ps → (saved host : Machine) → Sized saved → Sized host →
+    inShape saved ≡ true → inShape host ≡ true → restored ps saved host ≡ done saved 0
+
+-- what each index below n gives, rising
+unfoldable pub eachBelow : ℕ → (ℕ → List Part) → List Part
+eachBelow zero parts = []
+eachBelow (suc n) parts = eachBelow n parts ++ parts n
+
+-- One such list, in the order of examples/slices.c: the registers, the entries of both tables side by side, the program counter
+-- and the state word.
+abbrev pub everyRegister : List Part
+everyRegister = eachBelow 128 (λ i. register i ∷ [])
+
+abbrev pub everyEntry : List Part
+everyEntry = eachBelow 16 (λ i. registerEntry i ∷ predicateEntry i ∷ [])
+
+abbrev pub registersFirst : List Part
+registersFirst = everyRegister ++ everyEntry ++ (pc ∷ stateWord ∷ [])
+
+abbrev pub RegistersFirstIsWhole : Type 0
+RegistersFirstIsWhole = Whole registersFirst

@@ -1,5 +1,6 @@
+pub mod Lists
 pub mod Setting
 pub mod Reading
-pub mod Shape
+pub mod Calls
 pub mod StateWord
 pub mod Copy

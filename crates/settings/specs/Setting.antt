@@ -29,6 +29,18 @@ set m (register i value) = call.setRegister m i value
 set m (pc value) = call.setPc m value
 set m (stateWord word) = call.setStateWord m word
 
+-- what an accepted setting returns, by the machine that it leaves: both forms of VL the new VL, every other 0
+abbrev pub returned : Setting → Machine → ℕ
+returned (vl n) m = m .state .vl
+returned (vlImmediate n) m = m .state .vl
+returned (mvl n) m = 0
+returned (cfg n) m = 0
+returned (registerEntry i entry) m = 0
+returned (predicateEntry i entry) m = 0
+returned (register i value) m = 0
+returned (pc value) m = 0
+returned (stateWord word) m = 0
+
 -- its answer is 0
 abbrev pub Accepted : Reply → Type 0
 Accepted reply = accepts (reply .answer) ≡ true

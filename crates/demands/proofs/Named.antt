@@ -1,14 +1,11 @@
--- Answer 3 is for a vector operand and no other: a scalar's register, of 5 or 7 bits, always exists.
-use Prim.Native.Nat.{ℕ, _+_, _-_, _%_, _<_, _≤_}
-use mathlib.Core.Logic.{_⊎_, inl, inr}
-use mathlib.Core.Path.{_≡_, refl, sym, _∙_}
-use mathlib.Core.Bool.{Bool, true, false, cond, not, _&&_, true≢false}
+-- The registers that a word names have 7 bits at most.
+use Prim.Native.Nat.{ℕ, _<_}
+use mathlib.Core.Bool.{Bool, true, false, cond, not, _&&_}
 use mathlib.Core.List.{List, [], _∷_}
-use lib.Dec.{eqb, ltb}
+use lib.Dec.{eqb}
 use lib.ListN.{getD}
 use native.Mathlib.Nat.{mod-lt}
 use native.Mathlib.Omega.{arith}
-use borrow.Author.Tests.{ltb-false, lt-ltb, le-ltb}
 use Rattle.tables.specs.Bits.{bits}
 use Rattle.tables.specs.Entry.{registerEntry}
 use Rattle.search.specs.Search.{held}
@@ -23,20 +20,16 @@ use Rattle.decode.specs.declared.decoded.Named.{Named}
 use Rattle.decode.specs.declared.decoded.Operand.the-variants.{Scalar, Vector}
 use Rattle.decode.specs.Naming.{named, operandBy}
 use Rattle.decode.specs.Decoding.{decodedAs, compressedMove, decoded}
-use Rattle.operands.specs.declared.place.Place.{Place}
-use Rattle.operands.specs.Place.{placeOf, registerAt, fits}
-use Rattle.plans.specs.Operands.{operandsOf, every, fitting}
-use Rattle.machine.specs.Run.{wordOn}
-use Rattle.demands.specs.Premise.{Some}
-use Rattle.demands.specs.PastRegisters.{PastVector, PastRegistersIsVector}
+use Rattle.operands.specs.Place.{placeOf}
+use Rattle.plans.specs.Operands.{operandsOf}
 use Rattle.walk.proofs.OperationLaws.{by-cond}
 
 -- every operand of a list has Q
-abbrev All : (Named → Type 0) → List Named → Type 0
+abbrev pub All : (Named → Type 0) → List Named → Type 0
 All Q [] = Unit {0}
 All Q (n ∷ ns) = Q n × All Q ns
 
-abbrev Small : Named → Type 0
+abbrev pub Small : Named → Type 0
 Small n = placeOf (n .operand) .register < 128
 
 -- what holds of each register number of 5 bits holds of the operands of a word
@@ -83,53 +76,10 @@ named-small cfg registerTable predicateTable key h = by (held table.Register reg
         entry false = mod-lt _ (omega arith)
     by Nothing = omega (arith, h)
 
-word-small : (word cfg : ℕ) (registerTable predicateTable : List ℕ) → All Small (operandsOf (decoded word cfg registerTable predicateTable))
+pub word-small : (word cfg : ℕ) (registerTable predicateTable : List ℕ) → All Small (operandsOf (decoded word cfg registerTable predicateTable))
 unfolding decoded
 word-small word cfg registerTable predicateTable =
     let name = named cfg registerTable predicateTable in
     let small = named-small cfg registerTable predicateTable in
     by-cond (λ d. All Small (operandsOf d)) (eqb (bits 1 0 word) 0b11)
     (λ e. form-named Small name small word (formOf word)) (λ e. move-named Small name small word)
-
-module _ (vl : ℕ) where
-  place-past :
-      (p : Place) → p .register < 128 → fits vl p ≡ false → (p .vector ≡ true) × (128 ≤ p .register + (vl - 1))
-  unfolding fits registerAt
-  place-past p small = by (p .vector) refl
-    where
-      by :
-          (t : Bool) → p .vector ≡ t → ltb (cond t (p .register + (vl - 1)) (p .register)) 128 ≡ false →
-          (p .vector ≡ true) × (128 ≤ p .register + (vl - 1))
-      by true v e = (v, ltb-false (p .register + (vl - 1)) 128 e)
-      by false v e = absurd (omega (arith, small, ltb-false (p .register) 128 e))
-
-  past-place : (p : Place) → p .vector ≡ true → 128 ≤ p .register + (vl - 1) → fits vl p ≡ false
-  unfolding fits registerAt
-  past-place p v h = rw (v, le-ltb (p .register + (vl - 1)) 128 h)
-
-  some-past : (ns : List Named) → All Small ns → every (fitting vl) ns ≡ false → Some (PastVector vl) ns
-  unfolding every fitting
-  some-past [] a e = absurd (true≢false e)
-  some-past (n ∷ ns) a e = by (fits vl (placeOf (n .operand))) refl (some-past ns (a .1))
-    where
-      by :
-          (t : Bool) → fits vl (placeOf (n .operand)) ≡ t → (every (fitting vl) ns ≡ false → Some (PastVector vl) ns) →
-          Some (PastVector vl) (n ∷ ns)
-      by true f rest = inr (rest (rw f at e))
-      by false f rest = inl (place-past (placeOf (n .operand)) (a .0) f)
-
-  past-fails : (ns : List Named) → Some (PastVector vl) ns → every (fitting vl) ns ≡ false
-  unfolding every fitting
-  past-fails [] s = absurd s
-  past-fails (n ∷ ns) (inl (v, h)) = rw (past-place (placeOf (n .operand)) v h)
-  past-fails (n ∷ ns) (inr s) = by (fits vl (placeOf (n .operand))) (past-fails ns s)
-    where
-      by : (t : Bool) → every (fitting vl) ns ≡ false → (t && every (fitting vl) ns) ≡ false
-      by true e = e
-      by false e = refl
-
-pub past-registers-is-vector : PastRegistersIsVector
-past-registers-is-vector = record {
-  vector = λ word vl m. some-past vl (operandsOf (wordOn word m)) (word-small word (m .state .cfg) (m .«register_table») (m .«predicate_table»));
-  refused = λ word vl m. past-fails vl (operandsOf (wordOn word m));
-}

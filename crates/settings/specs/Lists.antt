@@ -1,0 +1,12 @@
+-- What holds of some element of a list.
+use mathlib.Core.Path.{_≡_}
+use mathlib.Core.Logic.{_⊎_}
+use mathlib.Core.List.{List, [], _∷_}
+
+module _ {A : Type 0} where
+  abbrev pub Some : (A → Type 0) → List A → Type 0
+  Some Q [] = ⊥
+  Some Q (x ∷ xs) = Q x ⊎ Some Q xs
+
+  abbrev pub Among : A → List A → Type 0
+  Among x xs = Some (λ y. x ≡ y) xs
