@@ -6,20 +6,24 @@
  *
  * Link with libembed.a (`rt staticlib embed` writes target/staticlib/libembed.a).
  *
- * What each call guarantees, whatever the machine, the word, the memory and the arguments hold (proved, see
- * docs/CONTRACTS.md, section "C interface"):
+ * What each function of the library guarantees, whatever the machine, the word, the memory and the arguments hold
+ * (proved of its source, see docs/CONTRACTS.md, sections "C interface" and "The three demands"):
  *
  *  - It ends, and returns one of the answers below. Nothing has to be checked before it.
  *  - Its out-parameter (`value` or `address`) is always written: with what the call's comment says, and with 0 where the
  *    answer is a refusal.
  *  - A refusal (2, 3, 4, 6, 7, 8) changes nothing in the machine or the memory.
- *  - It writes only what is not const in its declaration, and of memory only bytes that a store of the instruction names.
+ *  - Every word of the machine and every byte of the memory after it is what the definition of the call gives. Of the
+ *    arrays it writes only those that are not const in its declaration.
+ *
+ * The compiler's back end, this header and the wrappers in it are not part of the proof; tests/c calls each of them.
  *
  * What the compiler can't check, and only the caller can keep:
  *
  *  - The pointers are valid, aligned and of the sizes named here, the out-parameter's too.
  *  - The arrays, the memory and the out-parameter do not overlap each other.
- *  - `memory` is a valid pointer, not NULL, even where `size` is 0.
+ *  - simplev_run and simplev_step take a `memory` that is a valid pointer even where `size` is 0. Their wrappers
+ *    simplev_machine_run and simplev_machine_step take NULL too, as a memory of no bytes.
  */
 #ifndef SIMPLEV_H
 #define SIMPLEV_H
@@ -150,17 +154,19 @@ static inline void simplev_machine_fresh(struct simplev_machine *m)
     simplev_fresh(m->registers, m->control, m->register_table, m->predicate_table);
 }
 
-/* Runs an instruction word for at most `allowance` units, on a memory of `size` bytes at addresses from 0. A unit of
- * an operation is one position, also one that its mask leaves out. A unit of a move, a load or a store skips to the next
+/* Runs an instruction word for at most `allowance` units, on a memory of `size` bytes at addresses from 0, or none where
+ * `memory` is NULL. A unit of an operation is one position, also one that its mask leaves out. A unit of a move, a load or a store skips to the next
  * pair of positions that are on, and moves one element.
  *
  *  DONE    all elements done: the program counter has gone up by 4 (2 for C.MV), and both offsets are 0.
  *  PAUSED  the elements so far are done, the program counter is where it was, and the offsets stand at the next element.
- *          The same call again goes on from there, on this machine or on another into which this one was copied by the
- *          reading and setting calls. However it is cut, the end is the same as of one call with the sum of the
- *          allowances, as long as no mask register of an operand is among the registers that the instruction writes,
- *          and memory is not touched in between. An allowance of VL or more never pauses. With allowance 0 a good word
- *          pauses, and nothing changes.
+ *          The same call again goes on from there, on this machine or on another that was in shape when this one was
+ *          copied into it by the reading and setting calls: every register, both tables whole, the program counter and
+ *          the state word, in any order. However it is cut, the end is the same as of one call with the sum of the
+ *          allowances, as long as no mask register set for an operand is among the registers that the instruction may
+ *          write (the destination's register and, for a vector, the VL - 1 above it; a store has none), and memory is
+ *          not touched in between. An allowance of VL or more never pauses. With allowance 0 a good word pauses, and
+ *          nothing changes.
  *  FAULT   the elements before it are done, and the offsets stand at the one that failed; `*address` is the address of
  *          its access. The program counter is where it was, so the same call again tries that element again.
  *
@@ -168,15 +174,18 @@ static inline void simplev_machine_fresh(struct simplev_machine *m)
 static inline uint32_t simplev_machine_run(struct simplev_machine *m, uint32_t word, uint16_t allowance, uint8_t *memory,
                                            size_t size, uint64_t *address)
 {
-    return simplev_run(m->registers, m->control, m->register_table, m->predicate_table, word, allowance, memory, size,
-                       address);
+    uint8_t none = 0;
+    return simplev_run(m->registers, m->control, m->register_table, m->predicate_table, word, allowance,
+                       memory ? memory : &none, memory ? size : 0, address);
 }
 
 /* A run with allowance 1. */
 static inline uint32_t simplev_machine_step(struct simplev_machine *m, uint32_t word, uint8_t *memory, size_t size,
                                             uint64_t *address)
 {
-    return simplev_step(m->registers, m->control, m->register_table, m->predicate_table, word, memory, size, address);
+    uint8_t none = 0;
+    return simplev_step(m->registers, m->control, m->register_table, m->predicate_table, word, memory ? memory : &none,
+                        memory ? size : 0, address);
 }
 
 /* Setting calls: answers DONE, OUT_OF_SHAPE, NO_SUCH or BAD_VALUE. `*value` is 0 but where the comment says more. */

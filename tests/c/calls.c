@@ -119,6 +119,35 @@ static void runs(void)
     GIVES(simplev_machine_run(&m, sd, 9, memory, 15, &v), SIMPLEV_FAULT, 8);
 }
 
+/* A run of each kind, and a step, on a memory of no bytes: NULL, whatever the size says. */
+static void without_memory(void)
+{
+    static const size_t sizes[] = {0, 4096};
+    for (int i = 0; i < 2; i++) {
+        const size_t size = sizes[i];
+        struct simplev_machine before;
+        simplev_machine_fresh(&m);
+        GIVES(simplev_machine_set_mvl(&m, 2, &v), SIMPLEV_DONE, 0);
+        GIVES(simplev_machine_set_vl(&m, 2, &v), SIMPLEV_DONE, 2);
+        GIVES(simplev_machine_set_register_entry(&m, 0, 0xa885, &v), SIMPLEV_DONE, 0);
+        GIVES(simplev_machine_set_register(&m, 6, 8, &v), SIMPLEV_DONE, 0);
+        GIVES(simplev_machine_set_register(&m, 7, 5, &v), SIMPLEV_DONE, 0);
+        /* ADD x5, x6, x7, where x5 is the vector of two at x40 */
+        GIVES(simplev_machine_run(&m, 0x007302b3u, 2, NULL, size, &v), SIMPLEV_DONE, 0);
+        CHECK(m.registers[40] == 13 && m.registers[41] == 13 && m.control[SIMPLEV_PC] == 4);
+        /* C.MV x5, x6, a step and the rest */
+        GIVES(simplev_machine_step(&m, 0x829au, NULL, size, &v), SIMPLEV_PAUSED, 0);
+        GIVES(simplev_machine_run(&m, 0x829au, 2, NULL, size, &v), SIMPLEV_DONE, 0);
+        CHECK(m.registers[40] == 8 && m.registers[41] == 8 && m.control[SIMPLEV_PC] == 6);
+        /* LD x5, 8(x6), LB x5, -8(x6) and SD x7, 0(x6) fault at their first access */
+        before = m;
+        GIVES(simplev_machine_run(&m, 0x00833283u, 2, NULL, size, &v), SIMPLEV_FAULT, 16);
+        GIVES(simplev_machine_step(&m, 0xff830283u, NULL, size, &v), SIMPLEV_FAULT, 0);
+        GIVES(simplev_machine_run(&m, 0x00733023u, 2, NULL, size, &v), SIMPLEV_FAULT, 8);
+        CHECK(memcmp(&m, &before, sizeof m) == 0);
+    }
+}
+
 /* Every call but fresh, on a machine out of shape. */
 static void out_of_shape(void)
 {
@@ -154,6 +183,7 @@ int main(void)
     settings();
     readings();
     runs();
+    without_memory();
     out_of_shape();
     printf("%d of %d checks hold\n", checks - wrong, checks);
     return wrong != 0;

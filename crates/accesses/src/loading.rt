@@ -88,10 +88,7 @@ impl LoadPlan {
                         write_within(registers, to, value);
                         sides.after(position, 4, i, j)
                     }
-                    Loaded::Outside => Ran {
-                        answer: Answer::Fault(address),
-                        position: position.at(i, j),
-                    },
+                    Loaded::Outside => position.faulted(address, i, j),
                 }
             }
         }

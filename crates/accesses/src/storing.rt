@@ -50,10 +50,7 @@ impl StorePlan {
                 let value = registers[sides.source.place.at(i)];
                 match put(memory, address, width, value) {
                     Stored::Done => sides.after(position, 4, i, j),
-                    Stored::Outside => Ran {
-                        answer: Answer::Fault(address),
-                        position: position.at(i, j),
-                    },
+                    Stored::Outside => position.faulted(address, i, j),
                 }
             }
         }

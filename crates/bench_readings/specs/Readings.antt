@@ -15,7 +15,8 @@ use Rattle.machine.specs.Shape.{freshMachine}
 use Rattle.machine.specs.Update.{withRoom, withRegisters, withState, withRegisterTable, withPredicateTable}
 use Rattle.machine.specs.Setting.{setStateWord}
 use Rattle.machine.specs.Reading.{readStateWord}
-use Rattle.machine.specs.Run.{system, withOffsets, run}
+use Rattle.machine.specs.Run.{system, run}
+use Rattle.state_word.specs.State.{withOffsets}
 use Rattle.settings.specs.Setting as call
 use Rattle.settings.specs.Setting.{Setting}
 use Rattle.settings.specs.Copy.{after}

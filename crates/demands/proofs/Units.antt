@@ -19,9 +19,9 @@ use Rattle.walk.specs.declared.position.Position.{Position}
 use Rattle.walk.specs.declared.position.Ran.{Ran}
 use Rattle.walk.specs.declared.operation.OperationPlan.{OperationPlan}
 use Rattle.transfers.specs.declared.sides.Sides.{Sides}
-use Rattle.walk.specs.Context.{Context, left, ended, onward}
+use Rattle.walk.specs.Context.{Context, left, ended, onward, faulted}
 use Rattle.walk.specs.Operation.{elementOf, goOn, afterOn, positionDone, operationUnit}
-use Rattle.transfers.specs.Transfer.{faulted, Transferred, moved, outside, pairOf, afterPair, settled, atPair, transferUnit}
+use Rattle.transfers.specs.Transfer.{Transferred, moved, outside, pairOf, afterPair, settled, atPair, transferUnit}
 use Rattle.transfers.specs.SidesReady.{Within}
 use Rattle.walk.proofs.OperationLaws.{by-cond}
 use Rattle.demands.proofs.RegistersKept.{RegistersKept, unwritten, one-written}

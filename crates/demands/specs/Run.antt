@@ -14,7 +14,8 @@ use Rattle.transfers.specs.Transfer.{pairOf}
 use Rattle.handler.specs.Prepare.{Plan, operation, move, load, store}
 use Rattle.machine.specs.Shape.{inShape}
 use Rattle.machine.specs.Update.{withState}
-use Rattle.machine.specs.Run.{System, system, positionOf, withOffsets, prepare, unit, run}
+use Rattle.machine.specs.Run.{System, system, positionOf, prepare, unit, run}
+use Rattle.state_word.specs.State.{withOffsets}
 
 -- answers 2, 3, 4 and 6
 abbrev pub refuses : Answer → Bool

@@ -8,7 +8,7 @@ use Rattle.decode.specs.declared.decoded.Decoded.{Decoded}
 use Rattle.decode.specs.Decoding.{decoded}
 use Rattle.pausable.specs.Outcome.{Outcome, outcome}
 use Rattle.pausable.specs.Call.{Prepared, refused, called}
-use Rattle.state_word.specs.declared.State.{State}
+use Rattle.state_word.specs.State.{withOffsets}
 use Rattle.walk.specs.declared.position.Position.{Position}
 use Rattle.walk.specs.Context.{Context, context, pausing}
 use Rattle.handler.specs.Prepare.{Plan, prepared}
@@ -27,15 +27,6 @@ system m memory = record { machine = m; memory = memory }
 
 abbrev pub positionOf : Machine → Position
 positionOf m = record { pc = m .pc; source = m .state .source; destination = m .state .destination }
-
-abbrev pub withOffsets : State → ℕ → ℕ → State
-withOffsets s source destination = record {
-  mvl = s .mvl;
-  vl = s .vl;
-  cfg = s .cfg;
-  source = source;
-  destination = destination;
-}
 
 -- the machine with the registers and the position as given
 abbrev pub withPosition : Machine → List ℕ → Position → Machine

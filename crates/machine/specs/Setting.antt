@@ -1,11 +1,11 @@
 -- The calls that set one thing, as document 01's section "Setting calls" has them.
 use Prim.Native.Nat.{ℕ, _+_}
-use mathlib.Core.Bool.{true, _&&_}
+use mathlib.Core.Bool.{true}
 use lib.Dec.{leb, ltb}
 use lib.ListN.{set}
 use Rattle.registers.specs.Written.{written}
 use Rattle.tables.specs.Entry.{bit0Clear}
-use Rattle.state_word.specs.State.{withVl, withMvl, withCfg, fields, cut, goodWord}
+use Rattle.state_word.specs.State.{mvlInRange, cfgInRange, withVl, withMvl, withCfg, fields, cut, goodWord}
 use Rattle.machine.specs.declared.Machine.{Machine}
 use Rattle.machine.specs.declared.Reply.{Reply}
 use Rattle.machine.specs.Calls.{done, guarded}
@@ -23,13 +23,11 @@ setVl m n = guarded m true (leb 1 n) (vlSet m n)
 unfoldable pub setVlImmediate : Machine → ℕ → Reply
 setVlImmediate m n = guarded m true (leb n 31) (vlSet m (n + 1))
 
--- 1 to 64
 unfoldable pub setMvl : Machine → ℕ → Reply
-setMvl m n = guarded m true (leb 1 n && leb n 64) (done (withState m (withMvl (m .state) n)) 0)
+setMvl m n = guarded m true (mvlInRange n) (done (withState m (withMvl (m .state) n)) 0)
 
--- 0 to 31
 unfoldable pub setCfg : Machine → ℕ → Reply
-setCfg m n = guarded m true (leb n 31) (done (withState m (withCfg (m .state) n)) 0)
+setCfg m n = guarded m true (cfgInRange n) (done (withState m (withCfg (m .state) n)) 0)
 
 unfoldable pub setRegisterEntry : Machine → ℕ → ℕ → Reply
 setRegisterEntry m i entry =

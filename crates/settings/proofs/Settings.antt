@@ -2,7 +2,7 @@
 use Prim.Native.Nat.{ℕ, _+_}
 use mathlib.Core.Path.{_≡_, refl, sym, _∙_}
 use mathlib.Core.Logic.{inl, inr}
-use mathlib.Core.Bool.{Bool, true, false, _&&_, true≢false}
+use mathlib.Core.Bool.{Bool, true, false, true≢false}
 use mathlib.Core.List.{List}
 use lib.Dec.{leb, ltb}
 use lib.ListN.{getD}
@@ -11,7 +11,7 @@ use borrow.Author.Tests.{leb-true}
 use Rattle.registers.proofs.Writes.{zero-kept}
 use Rattle.state_word.specs.declared.State.{State}
 use Rattle.tables.specs.Entry.{bit0Clear, allBit0Clear}
-use Rattle.state_word.specs.State.{stateInShape, goodWord}
+use Rattle.state_word.specs.State.{mvlInRange, cfgInRange, stateInShape, goodWord}
 use Rattle.tables.proofs.Booleans.{and-left, and-right}
 use Rattle.tables.proofs.Clear.{clear-set}
 use Rattle.state_word.proofs.States.{vl-kept, mvl-kept, cfg-kept, word-kept}
@@ -86,10 +86,10 @@ setting-sound m (vlImmediate n) =
     if-guarded true (leb n 31)
     (λ h e. ended (state-kept m h _ (vl-kept (m .state) (parts m h .state) (n + 1) (omega arith))) refl)
 setting-sound m (mvl n) =
-    if-guarded true (leb 1 n && leb n 64) (λ h e. ended (state-kept m h _
+    if-guarded true (mvlInRange n) (λ h e. ended (state-kept m h _
     (mvl-kept (m .state) (parts m h .state) n (leb-true 1 n (and-left _ _ e)) (leb-true n 64 (and-right (leb 1 n) _ e)))) refl)
 setting-sound m (cfg n) =
-    if-guarded true (leb n 31)
+    if-guarded true (cfgInRange n)
     (λ h e. ended (state-kept m h _ (cfg-kept (m .state) (parts m h .state) n (leb-true n 31 e))) refl)
 setting-sound m (registerEntry i entry) =
     if-guarded (ltb i 16) true (λ h e. ended (tables-kept m h _ _ (parts m h .tables)) refl)

@@ -5,11 +5,19 @@ use lib.Dec.{eqb, leb, ltb}
 use Rattle.state_word.specs.declared.State.{State}
 use Rattle.tables.specs.Bits.{bits, inBits}
 
--- MVL 1 to 64, VL 1 to MVL, CFG 0 to 31, source and destination offset each below VL
+-- MVL 1 to 64
+abbrev pub mvlInRange : ℕ → Bool
+mvlInRange n = leb 1 n && leb n 64
+
+-- CFG 0 to 31
+abbrev pub cfgInRange : ℕ → Bool
+cfgInRange n = leb n 31
+
+-- and VL 1 to MVL, source and destination offset each below VL
 unfoldable pub stateInShape : State → Bool
 stateInShape s =
-    leb 1 (s .mvl) && leb (s .mvl) 64 && leb 1 (s .vl) && leb (s .vl) (s .mvl) && leb (s .cfg) 31
-    && ltb (s .source) (s .vl) && ltb (s .destination) (s .vl)
+    mvlInRange (s .mvl) && leb 1 (s .vl) && leb (s .vl) (s .mvl) && cfgInRange (s .cfg) && ltb (s .source) (s .vl)
+    && ltb (s .destination) (s .vl)
 
 -- VL becomes min(n, MVL), and both offsets 0
 abbrev pub withVl : State → ℕ → State
@@ -21,6 +29,11 @@ withMvl s n = record { mvl = n; vl = min (s .vl) n; cfg = s .cfg; source = 0; de
 
 abbrev pub withCfg : State → ℕ → State
 withCfg s n = record { mvl = s .mvl; vl = s .vl; cfg = n; source = s .source; destination = s .destination }
+
+-- the offsets as given
+abbrev pub withOffsets : State → ℕ → ℕ → State
+withOffsets s source destination =
+    record { mvl = s .mvl; vl = s .vl; cfg = s .cfg; source = source; destination = destination }
 
 -- bits 5..0 MVL - 1, 11..6 VL - 1, 17..12 source offset, 23..18 destination offset, 28..24 CFG
 unfoldable pub fields : ℕ → State

@@ -5,7 +5,6 @@ use mathlib.Core.List.{List}
 use mathlib.Core.Path.{_≡_, refl, sym, _∙_}
 use native.Mathlib.Omega.{arith}
 use Rattle.answers.specs.declared.Answer.{Answer}
-use Rattle.answers.specs.declared.Answer.the-variants.{Fault}
 use Rattle.answers.specs.Answer.{pauses}
 use Rattle.operands.specs.Place.{registerAt}
 use Rattle.operands.proofs.Fits.{fits-at}
@@ -17,7 +16,7 @@ use Rattle.pausable.specs.Outcome.{Outcome}
 use Rattle.walk.specs.declared.position.Position.{Position}
 use Rattle.walk.specs.declared.position.Ran.{Ran}
 use Rattle.transfers.specs.declared.sides.Sides.{Sides}
-use Rattle.walk.specs.Context.{Context, left, ended, onward, standing}
+use Rattle.walk.specs.Context.{Context, left, ended, onward, faulted}
 use Rattle.transfers.specs.SidesReady.{SidesReady, Within}
 use Rattle.transfers.specs.Transfer.{Transferred, moved, outside, pairOf, afterPair, settled, atPair, transferUnit}
 
@@ -79,10 +78,9 @@ module _ (s : Sides) (bytes : ℕ) (transfer : Context → ℕ → ℕ → Trans
     unfolding transferUnit atPair settled
     unit-moved registers memory e = rw (found, e)
 
-    -- a fault moves the offsets and not the program counter
     pub unit-outside :
         (address : ℕ) → transfer c i j ≡ outside address →
-        left (record { answer = Fault address; position = standing (c .position) i j }) (c .registers) (c .memory)
+        left (faulted address (c .position) i j) (c .registers) (c .memory)
         ≡ transferUnit s bytes transfer c
     unfolding transferUnit atPair settled
     unit-outside address e = rw (found, e)

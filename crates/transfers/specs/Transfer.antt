@@ -3,7 +3,6 @@ use Prim.Native.Nat.{ℕ}
 use mathlib.Core.Bool.{cond, _||_}
 use mathlib.Core.List.{List}
 use Rattle.answers.specs.declared.Answer.{Answer}
-use Rattle.answers.specs.declared.Answer.the-variants.{Fault}
 use Rattle.pairs.specs.declared.Pair.{Pair}
 use Rattle.pairs.specs.declared.Pair.the-variants.{Found, End}
 use Rattle.pairs.specs.Side.{start, next, past}
@@ -12,16 +11,12 @@ use Rattle.pausable.specs.Outcome.{Outcome}
 use Rattle.walk.specs.declared.position.Position.{Position}
 use Rattle.walk.specs.declared.position.Ran.{Ran}
 use Rattle.transfers.specs.declared.sides.Sides.{Sides}
-use Rattle.walk.specs.Context.{Context, left, standing, ended, onward}
+use Rattle.walk.specs.Context.{Context, left, ended, onward, faulted}
 
 -- the registers and the memory that an element leaves, or the address of an access that doesn't lie wholly in memory
 pub data Transferred : Type 0 where
   moved : List ℕ → List ℕ → Transferred
   outside : ℕ → Transferred
-
--- a fault leaves the offsets at the pair
-abbrev pub faulted : ℕ → Position → ℕ → ℕ → Ran
-faulted address p source destination = record { answer = Fault address; position = standing p source destination }
 
 -- the pair that a unit works at
 unfoldable pub pairOf : Sides → Position → Pair

@@ -64,7 +64,7 @@ returns-3 c =
     let l = c .before .before .before in
     let a = l .before in
     let refused = sym (l .fetch .ensures) ∙ c .before .enum-told2 .given .1 in
-    rw (c .at2 .ensures)
+    rw (c .faulted .ensures)
     (unit-outside _ _ _ _ _ _ (found (a .before .before)) _ (load-outside _ _ _ _ _ (a .address-at .ensures) refused))
 
 pub unit-spec : {M : Type 1} → statement M

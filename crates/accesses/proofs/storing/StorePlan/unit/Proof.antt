@@ -66,7 +66,7 @@ returns-3 c =
     let v = s .before .before .before in
     let a = v .before in
     let refused = sym (s .put .ensures .0) ∙ c .before .enum-told3 .given .1 in
-    rw (c .at2 .ensures, s .put .ensures .1, stored-outside _ _ _ _ refused)
+    rw (c .faulted .ensures, s .put .ensures .1, stored-outside _ _ _ _ refused)
     (unit-outside _ _ _ _ _ _ (found (a .before)) _ (store-outside _ _ _ _ _ (a .address-at .ensures) refused))
 
 pub unit-spec : {M : Type 1} → statement M
