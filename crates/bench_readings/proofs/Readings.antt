@@ -4,13 +4,11 @@ use Rattle.answers.specs.Answer.{accepts, pauses}
 use Rattle.answers.specs.Verdict.{verdict}
 use Rattle.registers.specs.Written.{written}
 use Rattle.compute.specs.Compute.{computed}
-use Rattle.scalar.specs.Signed.{signExtended}
 use Rattle.tables.specs.Enabled.{enabledRange}
 use Rattle.tables.specs.Entry.{clearBelow}
 use Rattle.search.specs.Search.{answers, candidate, highest, held}
 use Rattle.state_word.specs.State.{stateInShape, fields, wordOf, goodWord}
 use Rattle.memory.specs.Access.{inside, located}
-use Rattle.memory.specs.LittleEndian.{number}
 use Rattle.memory.specs.Transfer.{loaded}
 use Rattle.encoding.specs.Listing.{funct3Rows, funct6Rows, funct7Rows, firstForm, lookUp}
 use Rattle.decode.specs.Naming.{named}
@@ -32,8 +30,9 @@ use Rattle.machine.specs.Shape.{inShape, roomInShape, tablesInShape}
 use Rattle.machine.specs.Setting.{setStateWord, setRegisterEntry, setRegister}
 use Rattle.machine.specs.Reading.{told}
 use Rattle.machine.specs.Run.{prepare, unit, run}
-use Rattle.bench_readings.specs.Readings.{
-  Readings,
+use Rattle.bench_readings.proofs.Memories.{of-length, extended}
+use Rattle.bench_readings.specs.Readings.{Readings, enabledBelow}
+use Rattle.bench_readings.specs.Machines.{
   putFrom,
   base,
   settings,
@@ -47,13 +46,12 @@ use Rattle.bench_readings.specs.Readings.{
   sourceMask,
   destinationMask,
   loading,
-  countingFrom,
   full,
   sums,
 }
 
 pub readings : Readings
-unfolding accepts pauses verdict written computed signExtended enabledRange clearBelow answers candidate highest held stateInShape fields wordOf goodWord inside located number loaded funct3Rows funct6Rows funct7Rows firstForm lookUp named decoded decodedAs compressedMove registerAt fits onBits maskBy isOn start next past firstOn skipped pairFrom walk begun elementOf goOn afterOn positionDone operationUnit pairOf afterPair settled atPair transferUnit moveElement moveUnit addressAt fetched loadElement loadUnit every narrow fitting operationPlan movePlan loadPlan served prepared inShape roomInShape tablesInShape setStateWord setRegisterEntry setRegister told prepare unit run putFrom base settings holding tagged masked withLengths positioned nines scalarDestination sourceMask destinationMask loading countingFrom full sums
+unfolding accepts pauses verdict written computed enabledRange clearBelow answers candidate highest held stateInShape fields wordOf goodWord inside located loaded funct3Rows funct6Rows funct7Rows firstForm lookUp named decoded decodedAs compressedMove registerAt fits onBits maskBy isOn start next past firstOn skipped pairFrom walk begun elementOf goOn afterOn positionDone operationUnit pairOf afterPair settled atPair transferUnit moveElement moveUnit addressAt fetched loadElement loadUnit every narrow fitting operationPlan movePlan loadPlan served prepared inShape roomInShape tablesInShape setStateWord setRegisterEntry setRegister told prepare unit run putFrom base settings holding tagged masked withLengths positioned nines scalarDestination sourceMask destinationMask loading enabledBelow full sums
 readings = record {
   base-set = refl;
   p1 = λ memory. refl;
@@ -64,8 +62,8 @@ readings = record {
   p6 = λ memory. refl;
   p7 = λ memory. refl;
   p8 = λ memory. refl;
-  p9-short = refl;
-  p9-whole = refl;
+  p9-short = of-length _ 40 (λ f bytes. rw (extended _ 24 bytes, extended _ 32 bytes));
+  p9-whole = of-length _ 48 (λ f bytes. rw (extended _ 24 bytes, extended _ 32 bytes, extended _ 40 bytes));
   p10-read = refl;
   p10-set = refl;
   p11-9 = refl;

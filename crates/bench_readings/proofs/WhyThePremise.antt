@@ -26,7 +26,7 @@ use Rattle.plans.specs.Plan.{operationPlan}
 use Rattle.handler.specs.Prepare.{served, prepared}
 use Rattle.machine.specs.Shape.{inShape, roomInShape, tablesInShape}
 use Rattle.machine.specs.Run.{System, prepare, unit, run}
-use Rattle.bench_readings.specs.Readings.{putFrom, base, holding, masked, positioned}
+use Rattle.bench_readings.specs.Machines.{putFrom, base, holding, masked, positioned}
 use Rattle.bench_readings.specs.WhyThePremise.{WhyThePremise, maskWritten}
 
 register42 : Outcome Answer System → ℕ

@@ -1,2 +1,4 @@
+pub mod Machines
 pub mod Readings
+pub mod Report
 pub mod WhyThePremise

@@ -2,14 +2,13 @@
 use mathlib.Core.Path.{_≡_}
 use mathlib.Core.List.{List, [], _∷_}
 use Prim.Native.Nat.{ℕ}
-use Rattle.answers.specs.declared.Answer.the-variants.{Done, Paused}
-use Rattle.pausable.specs.Outcome.{outcome}
 use Rattle.pausable.specs.Call.{Further, total}
 use Rattle.machine.specs.declared.Machine.{Machine}
 use Rattle.machine.specs.Run.{system, run}
 use Rattle.demands.specs.Premise.{Apart}
 use Rattle.demands.specs.Cuts.{Between, nothing, runs}
-use Rattle.bench_readings.specs.Readings.{add, most, base, holding, masked, positioned, Runs}
+use Rattle.bench_readings.specs.Machines.{add, most, base, holding, masked, positioned}
+use Rattle.bench_readings.specs.Report.{Ends, Runs}
 
 -- B with x7 = 1 and mask register 41 holding 15; entry 2952 is key 5, mask register 41
 unfoldable pub maskWritten : Machine
@@ -21,14 +20,14 @@ rest = record { change = nothing; allowance = most } ∷ []
 
 pub record WhyThePremise : Type 0 where
   -- uncut: 2, 3, 4, 5
-  pub uncut : Runs add most maskWritten (Done 0) (positioned 4 0 0 (holding 40 (2 ∷ 3 ∷ 4 ∷ 5 ∷ []) maskWritten))
+  pub uncut : Runs add most maskWritten 0 0 (positioned 4 0 0 (holding 40 (2 ∷ 3 ∷ 4 ∷ 5 ∷ []) maskWritten))
   -- the cut is after 2, where register 41 holds 3
-  pub first : Runs add 2 maskWritten Paused (positioned 0 2 2 (holding 40 (2 ∷ 3 ∷ 0 ∷ 0 ∷ []) maskWritten))
+  pub first : Runs add 2 maskWritten 1 0 (positioned 0 2 2 (holding 40 (2 ∷ 3 ∷ 0 ∷ 0 ∷ []) maskWritten))
   -- cut after 2: elements 2 and 3 are off
   pub cut :
       (memory : List ℕ) →
-      runs add 2 rest (system maskWritten memory)
-      ≡ outcome (Done 0) (system (positioned 4 0 0 (holding 40 (2 ∷ 3 ∷ 0 ∷ 0 ∷ []) maskWritten)) memory)
+      Ends (runs add 2 rest (system maskWritten memory)) 0 0
+      (system (positioned 4 0 0 (holding 40 (2 ∷ 3 ∷ 0 ∷ 0 ∷ []) maskWritten)) memory)
   -- so the list of calls is not the one call of their sum
   pub differ :
       (memory : List ℕ) →
