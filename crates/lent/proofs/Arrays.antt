@@ -1,10 +1,16 @@
--- Machines and arrays determine each other.
-use Prim.Native.Nat.{ℕ, suc}
-use mathlib.Core.Path.{_≡_, refl}
+-- Machines and arrays determine each other, words in range are their low bits, and what stands at an index.
+use Prim.Native.Nat.{ℕ, suc, _≤_, _<_, _%_, _^_}
+use mathlib.Core.Path.{_≡_, refl, _∙_}
+use mathlib.Core.Bool.{true}
 use mathlib.Core.List.{List, [], _∷_}
 use lib.ListN.{length, getD}
+use native.Mathlib.Nat.{mod-eq-of-lt}
 use native.Mathlib.Omega.{arith}
-use Rattle.lent.specs.Layout.{stateOf, controlOf, Faithful}
+use borrow.Author.Tests.{lt-ltb, le-ltb}
+use Rattle.state_word.specs.declared.State.{State}
+use Rattle.state_word.specs.State.{stateInShape}
+use Rattle.state_word.proofs.States.{bounds}
+use Rattle.lent.specs.Layout.{stateOf, lowBits, elementAt, controlOf, Faithful}
 
 control-back : (control : List ℕ) → length control ≡ 6 → controlOf (getD control 0 0) (stateOf control) ≡ control
 control-back (a ∷ b ∷ c ∷ d ∷ e ∷ f ∷ []) h = refl
@@ -18,3 +24,28 @@ control-back (a ∷ b ∷ c ∷ d ∷ e ∷ f ∷ g ∷ rest) h = absurd (omega 
 
 pub faithful : Faithful
 faithful = record { machine = λ m. refl; control = control-back }
+
+low-word : (n : ℕ) → n ≤ 64 → n % 2 ^ 32 ≡ n
+low-word n h = mod-eq-of-lt (omega arith)
+
+-- a state in shape is read whole
+pub all-bits : {s r : State} → r ≡ lowBits s → stateInShape s ≡ true → r ≡ s
+unfolding lowBits
+all-bits {s} e shaped =
+    let b = bounds s shaped in
+    e ∙ rw (
+      low-word (s .mvl) (b .mvl-high),
+      low-word (s .vl) (omega arith),
+      low-word (s .cfg) (omega arith),
+      low-word (s .source) (omega arith),
+      low-word (s .destination) (omega arith),
+    )
+
+module _ (size : ℕ) (elements : List ℕ) (index : ℕ) where
+  pub missing : size ≤ index → 0 ≡ elementAt size elements index
+  unfolding elementAt
+  missing h = rw (le-ltb index size h)
+
+  pub present : index < size → getD elements index 0 ≡ elementAt size elements index
+  unfolding elementAt
+  present h = rw (lt-ltb index size h)

@@ -1,7 +1,9 @@
 -- How a machine stands in four arrays: registers, control, register table, predicate table.
-use Prim.Native.Nat.{ℕ}
+use Prim.Native.Nat.{ℕ, _%_, _^_}
 use mathlib.Core.Path.{_≡_}
+use mathlib.Core.Bool.{cond}
 use mathlib.Core.List.{List, [], _∷_}
+use lib.Dec.{ltb}
 use lib.ListN.{length, getD}
 use Rattle.state_word.specs.declared.State.{State}
 use Rattle.machine.specs.declared.Machine.{Machine}
@@ -15,6 +17,20 @@ stateOf control = record {
   source = getD control 4 0;
   destination = getD control 5 0;
 }
+
+-- the low 32 bits of each field
+unfoldable pub lowBits : State → State
+lowBits s = record {
+  mvl = s .mvl % 2 ^ 32;
+  vl = s .vl % 2 ^ 32;
+  cfg = s .cfg % 2 ^ 32;
+  source = s .source % 2 ^ 32;
+  destination = s .destination % 2 ^ 32;
+}
+
+-- an element of an array of a size, and 0 where there is none
+unfoldable pub elementAt : ℕ → List ℕ → ℕ → ℕ
+elementAt size elements index = cond (ltb index size) (getD elements index 0) 0
 
 -- the machine that four arrays hold
 abbrev pub machineOf : List ℕ → List ℕ → List ℕ → List ℕ → Machine

@@ -1,10 +1,8 @@
 // A machine in four arrays that the caller lends: what the calls on them share.
 ghost use mathlib.Core.Path.{_≡_};
-ghost use mathlib.Core.Bool.{true};
 ghost use Rattle.answers.specs.Verdict.{verdict};
-ghost use Rattle.state_word.specs.State.{stateInShape};
 ghost use Rattle.machine.specs.Shape.{inShape};
-ghost use Rattle.lent.specs.Layout.{stateOf, machineOf};
+ghost use Rattle.lent.specs.Layout.{stateOf, lowBits, machineOf};
 ghost use Rattle.lent.specs.Leaves.{Says};
 use answers::Answer;
 use answers::verdict_of;
@@ -73,9 +71,9 @@ pub fn tell(answer: Answer, value: &mut u64) -> u32
     answer.number()
 }
 
-// MVL, VL, CFG and the offsets, of control words in range. Of others the low 32 bits.
+// MVL, VL, CFG and the offsets: of each the low 32 bits, which are all of a word in range.
 pub fn state_of(control: &[u64; 6]) -> State
-    ensures { λ r. ⌜ (stateInShape (stateOf (now (control .entry))) ≡ true → r ≡ stateOf (now (control .entry))) ⌝ }
+    ensures { λ r. ⌜ r ≡ lowBits (stateOf (now (control .entry))) ⌝ }
 {
     State {
         mvl: (control[MVL] % 4294967296) as u32,

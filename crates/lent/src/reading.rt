@@ -3,18 +3,17 @@ ghost use mathlib.Core.Path.{_≡_};
 ghost use mathlib.Core.Bool.{true};
 ghost use lib.Dec.{ltb};
 ghost use lib.ListN.{getD};
-ghost use Prim.Native.Nat.{_<_};
 ghost use Rattle.machine.specs.Calls.{done, guarded};
 ghost use Rattle.machine.specs.Reading.{told};
-ghost use Rattle.lent.specs.Layout.{machineOf};
+ghost use Rattle.lent.specs.Layout.{elementAt, machineOf};
 ghost use Rattle.lent.specs.Leaves.{Replies};
 use crate::judged;
 use crate::tell;
 use answers::Answer;
 
-// A register, where there is one.
+// A register, and 0 where there is none.
 pub fn register_at(registers: &[u64; 128], index: u32) -> u64
-    ensures { λ r. ⌜ (index < 128 → r ≡ getD (now (registers .entry)) index 0) ⌝ }
+    ensures { λ r. ⌜ r ≡ elementAt 128 (now (registers .entry)) index ⌝ }
 {
     if 128 <= index {
         return 0;
@@ -22,9 +21,9 @@ pub fn register_at(registers: &[u64; 128], index: u32) -> u64
     registers[index as usize]
 }
 
-// An entry, where there is one.
+// An entry, and 0 where there is none.
 pub fn entry_at(entries: &[u16; 16], index: u32) -> u16
-    ensures { λ r. ⌜ (index < 16 → r ≡ getD (now (entries .entry)) index 0) ⌝ }
+    ensures { λ r. ⌜ r ≡ elementAt 16 (now (entries .entry)) index ⌝ }
 {
     if 16 <= index {
         return 0;

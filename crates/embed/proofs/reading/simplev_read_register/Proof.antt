@@ -1,15 +1,15 @@
 use borrow.Author.Needs.{needs}
-use borrow.Author.Tests.{ltb-true}
 use Rattle.machine.specs.Reading.{readRegister}
+use Rattle.lent.specs.Layout.{elementAt}
 use Rattle.lent.proofs.Leaves.{replies-same}
 use Rattle.embed.proofs.reading.simplev_read_register.Statement.{statement}
 use Rattle.embed.proofs.reading.simplev_read_register.Tie as tie
 
 returns : tie.Need-returns
-unfolding readRegister
+unfolding readRegister elementAt
 returns c =
     replies-same _ _ _ _ _ (c .read-at .ensures)
-    (λ shaped placed. rw (c .before .before .register-at .ensures (ltb-true _ _ placed)))
+    (λ shaped placed. rw (c .before .before .register-at .ensures, placed))
 
 pub simplev-read-register-spec : {M : Type 1} → statement M
 simplev-read-register-spec =

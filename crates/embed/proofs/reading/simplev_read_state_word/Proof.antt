@@ -1,6 +1,7 @@
 use borrow.Author.Needs.{needs}
 use Rattle.machine.specs.Reading.{told}
 use Rattle.machine.proofs.Shapes.{parts}
+use Rattle.lent.proofs.Arrays.{all-bits}
 use Rattle.lent.proofs.Leaves.{replies-same}
 use Rattle.embed.proofs.reading.simplev_read_state_word.Statement.{statement}
 use Rattle.embed.proofs.reading.simplev_read_state_word.Tie as tie
@@ -10,7 +11,7 @@ unfolding told
 returns c =
     let word = c .before .before in
     replies-same _ _ _ _ _ (c .read .ensures)
-    (λ shaped placed. rw (word .word .ensures, word .before .state-of .ensures (parts _ shaped .state)))
+    (λ shaped placed. rw (word .word .ensures, all-bits (word .before .state-of .ensures) (parts _ shaped .state)))
 
 pub simplev-read-state-word-spec : {M : Type 1} → statement M
 simplev-read-state-word-spec =

@@ -3,6 +3,7 @@ use borrow.Author.Needs.{needs}
 use Rattle.machine.proofs.Laws.{fails, holds}
 use Rattle.machine.proofs.Shapes.{parts}
 use Rattle.machine.proofs.Placed.{standing-within, vl-most}
+use Rattle.lent.proofs.Arrays.{all-bits}
 use Rattle.embed.proofs.Runs.{leaves-refused, leaves-run}
 use Rattle.embed.proofs.running.simplev_run.Statement.{statement}
 use Rattle.embed.proofs.running.simplev_run.Tie as tie
@@ -17,7 +18,7 @@ run-requires c κs =
     let read = c .before .before .before in
     let test = read .before .before in
     let shaped = holds (test .before .in-shape .ensures) (test .if1 .left) in
-    rw (read .state-of .ensures (parts _ shaped .state)) (vl-most _ shaped, standing-within _ shaped)
+    rw (all-bits (read .state-of .ensures) (parts _ shaped .state)) (vl-most _ shaped, standing-within _ shaped)
 
 returns-2 : tie.Need-returns-2
 returns-2 c =
@@ -26,7 +27,7 @@ returns-2 c =
     let test = read .before .before in
     let shaped = holds (test .before .in-shape .ensures) (test .if1 .left) in
     leaves-run _ _ _ _ shaped
-    (rw (read .state-of .ensures (parts _ shaped .state)) at (ran .run .ensures))
+    (rw (all-bits (read .state-of .ensures) (parts _ shaped .state)) at (ran .run .ensures))
     (c .tell2 .ensures)
 
 pub simplev-run-spec : {M : Type 1} → statement M

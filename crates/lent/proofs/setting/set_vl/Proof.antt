@@ -1,5 +1,6 @@
 use borrow.Author.Needs.{needs}
 use Rattle.machine.proofs.Shapes.{parts}
+use Rattle.lent.proofs.Arrays.{all-bits}
 use Rattle.lent.proofs.Leaves.{replies-same}
 use Rattle.lent.proofs.setting.set_vl.Statement.{statement}
 use Rattle.lent.proofs.setting.set_vl.Tie as tie
@@ -8,7 +9,7 @@ returns : tie.Need-returns
 returns c =
     let made = c .before .before .before .before in
     replies-same _ _ _ _ _ (c .set-control .ensures)
-    (λ shaped placed. rw (made .with-vl .ensures, made .before .state-of .ensures (parts _ shaped .state)))
+    (λ shaped placed. rw (made .with-vl .ensures, all-bits (made .before .state-of .ensures) (parts _ shaped .state)))
 
 pub set-vl-spec : {M : Type 1} → statement M
 set-vl-spec =
