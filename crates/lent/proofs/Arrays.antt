@@ -10,9 +10,9 @@ use borrow.Author.Tests.{lt-ltb, le-ltb}
 use Rattle.state_word.specs.declared.State.{State}
 use Rattle.state_word.specs.State.{stateInShape}
 use Rattle.state_word.proofs.States.{bounds}
-use Rattle.lent.specs.Layout.{stateOf, lowBits, elementAt, controlOf, Faithful}
+use Rattle.lent.specs.Layout.{stateOf, lowBits, elementAt, ControlBack, Faithful}
 
-control-back : (control : List ℕ) → length control ≡ 6 → controlOf (getD control 0 0) (stateOf control) ≡ control
+control-back : (control : List ℕ) → ControlBack control
 control-back (a ∷ b ∷ c ∷ d ∷ e ∷ f ∷ []) h = refl
 control-back [] h = absurd (omega arith)
 control-back (a ∷ []) h = absurd (omega arith)

@@ -46,8 +46,12 @@ machineOf registers control registerTable predicateTable = record {
 abbrev pub controlOf : ℕ → State → List ℕ
 controlOf pc s = pc ∷ s .mvl ∷ s .vl ∷ s .cfg ∷ s .source ∷ s .destination ∷ []
 
+-- six control words are those of the program counter and the state that they hold
+abbrev pub ControlBack : List ℕ → Type 0
+ControlBack control = length control ≡ 6 → controlOf (getD control 0 0) (stateOf control) ≡ control
+
 -- Machines and arrays determine each other: an equation of `machineOf` leaves no word of an array open.
 pub record Faithful : Type 0 where
   pub machine : (m : Machine) →
       machineOf (m .registers) (controlOf (m .pc) (m .state)) (m .«register_table») (m .«predicate_table») ≡ m
-  pub control : (control : List ℕ) → length control ≡ 6 → controlOf (getD control 0 0) (stateOf control) ≡ control
+  pub control : (control : List ℕ) → ControlBack control

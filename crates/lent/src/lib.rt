@@ -1,11 +1,14 @@
 // A machine in four arrays that the caller lends: what the calls on them share.
 ghost use mathlib.Core.Path.{_≡_};
+ghost use mathlib.Core.Bool.{true};
 ghost use Rattle.answers.specs.Verdict.{verdict};
-ghost use Rattle.machine.specs.Shape.{inShape};
+ghost use lib.ListN.{length};
+ghost use Rattle.machine.specs.Shape.{inShape, Sized};
 ghost use Rattle.lent.specs.Layout.{stateOf, lowBits, machineOf};
 ghost use Rattle.lent.specs.Leaves.{Says};
 use answers::Answer;
 use answers::verdict_of;
+use machine::Machine;
 use state_word::State;
 use tables::entry::all_bit0_clear;
 
@@ -82,4 +85,38 @@ pub fn state_of(control: &[u64; 6]) -> State
         source: (control[SOURCE] % 4294967296) as u32,
         destination: (control[DESTINATION] % 4294967296) as u32,
     }
+}
+
+// Six words, by value: there are six.
+fn six(words: [u64; 6]) -> [u64; 6]
+    ensures { λ r. ⌜ (r ≡ words) × (length words ≡ 6) ⌝ }
+{
+    words
+}
+
+// Whether the arrays have their lengths, as they always do: a theorem that takes these as a premise has them here.
+pub fn sized<'a>(
+    registers: &'a [u64; 128],
+    control: &'a [u64; 6],
+    register_table: &'a [u16; 16],
+    predicate_table: &'a [u16; 16],
+) -> bool
+    ensures { λ r. ⌜ (r ≡ true) × Sized (machineOf (now (registers .entry)) (now (control .entry)) (now («register_table» .entry)) (now («predicate_table» .entry))) × (length (now (control .entry)) ≡ 6) ⌝ }
+{
+    let words = *control;
+    six(words);
+    let registers = *registers;
+    let register_table = *register_table;
+    let predicate_table = *predicate_table;
+    let fresh = Machine::fresh();
+    let state = fresh.state;
+    let machine = Machine {
+        registers,
+        pc: 0,
+        state,
+        register_table,
+        predicate_table,
+    };
+    machine.sized();
+    true
 }
