@@ -2,11 +2,11 @@
 use Prim.Native.Nat.{ℕ, _+_, _-_, _*_, _<_, _≤_}
 use native.Mathlib.Omega.{arith}
 use mathlib.Core.Path.{_≡_, refl, sym, ap, _∙_}
-use mathlib.Core.List.{List, [], _∷_, _++_, append-assoc, append-nil}
-use lib.ListN.{length, drop, take}
+use mathlib.Core.List.{List, [], _++_}
+use lib.ListN.{length, drop}
 use lib.Seq.{length-take-le}
 use Rattle.machine.specs.declared.Machine.{Machine}
-use Rattle.machine.specs.Run.{System, system}
+use Rattle.machine.specs.Run.{system}
 use Rattle.records.specs.declared.reader.Reader.{Reader}
 use Rattle.records.specs.declared.reader.Found.{Found}
 use Rattle.records.specs.Reader.{readingOf, Finding}
@@ -15,71 +15,19 @@ use Rattle.text.specs.Put.{Put}
 use Rattle.text.proofs.Puts.{put-none, put-join, put-length, put-over, put-next}
 use Rattle.stream.specs.declared.feed.Text.the-variants.{Written}
 use Rattle.stream.specs.declared.feed.Applied.{Applied}
-use Rattle.stream.specs.Feed.{over, finishResult, feedWith, streamOf, acceptedFeed, Applying}
+use Rattle.stream.specs.Feed.{over, textOut, feedWith, streamOf, acceptedFeed, Applying}
 use Rattle.stream.proofs.Accepting.{Accepted}
-use Rattle.records.specs.declared.reader.Event.{Event}
 use Rattle.records.specs.declared.reader.Event.the-variants.{Whole, Nothing}
 use Rattle.records.specs.declared.record.Record.{Record}
-use Rattle.records.specs.Reading.{Reading, Search, searched, firstOf, taken, found}
+use Rattle.records.specs.Reading.{Search}
 use Rattle.stream.specs.Apply.{applied, printed}
-use Rattle.stream.specs.Stream.{Stream, stream, Fed, fedWith, fedEvent, after, fed}
-
--- feeding some bytes is feeding up to the first record that ends, and then the rest
-abbrev searchFed : Search → System → Fed
-searchFed s system =
-    let first = fedEvent (s .event) (s .reading) system in
-    after (first .text) (fed (first .stream) (s .rest))
-
-fed-found : (r : Reading) (system : System) (bytes : List ℕ) → fed (stream r system) bytes ≡ searchFed (found r bytes) system
-unfolding fed found fedEvent
-fed-found r system [] = refl
-fed-found r system (b ∷ bs) = by (taken r b .event) (fed-found (taken r b .reading) system bs)
-  where
-    by :
-        (e : Event) →
-        fed (stream (taken r b .reading) system) bs ≡ searchFed (found (taken r b .reading) bs) system →
-        after (fedEvent e (taken r b .reading) system .text) (fed (fedEvent e (taken r b .reading) system .stream) bs)
-        ≡ searchFed (firstOf e (searched e (taken r b .reading) bs) (found (taken r b .reading) bs)) system
-    by (Whole w) later = refl
-    by Nothing later = later
-
--- where none ends, no byte is left
-none-rest : (r : Reading) (bytes : List ℕ) → found r bytes .event ≡ Nothing → found r bytes .rest ≡ []
-unfolding found
-none-rest r [] e = refl
-none-rest r (b ∷ bs) e = by (taken r b .event) e (none-rest (taken r b .reading) bs)
-  where
-    by :
-        (v : Event) → firstOf v (searched v (taken r b .reading) bs) (found (taken r b .reading) bs) .event ≡ Nothing →
-        (found (taken r b .reading) bs .event ≡ Nothing → found (taken r b .reading) bs .rest ≡ []) →
-        firstOf v (searched v (taken r b .reading) bs) (found (taken r b .reading) bs) .rest ≡ []
-    by (Whole w) e later = cc
-    by Nothing e later = later e
-
-module _ (r next : Reading) (system : System) (bytes rest : List ℕ) where
-  pub feed-none : searched Nothing next rest ≡ found r bytes → fedWith [] (stream next system) ≡ fed (stream r system) bytes
-  unfolding fed fedEvent
-  feed-none e =
-      let none : rest ≡ [] = ap (λ (s : Search). s .rest) e ∙ none-rest r bytes (ap (λ (s : Search). s .event) (sym e)) in
-      sym (fed-found r system bytes ∙ rw (← e, none))
-
-  pub feed-whole :
-      (w : Record) → searched (Whole w) next rest ≡ found r bytes →
-      after (printed w (applied w system)) (fed (stream next (applied w system .state)) rest) ≡ fed (stream r system) bytes
-  unfolding fedEvent
-  feed-whole w e = sym (fed-found r system bytes ∙ rw (← e))
-
--- more text before what is fed later
-pub after-more : (a b : List ℕ) (f : Fed) → after (a ++ b) f ≡ after a (after b f)
-after-more a b f = rw append-assoc
-
-pub after-last : (a : List ℕ) (s : Stream) → after a (fedWith [] s) ≡ fedWith a s
-after-last a s = rw append-nil
+use Rattle.stream.specs.Stream.{stream, fedWith, after, fed}
+use Rattle.stream.proofs.Fed.{feed-none, feed-whole, after-more, after-last}
 
 -- the text of the end, put from the start on
 pub finish-written :
     {old new text : List ℕ} {next : ℕ} → Put old 0 text new next → next ≤ length old →
-    finishResult (Written next) new ≡ finishResult (Written (length text)) (over text old)
+    textOut (Written next) new ≡ textOut (Written (length text)) (over text old)
 finish-written p h = rw (put-next p, put-over p (omega (arith, put-next p)))
 
 -- what the loop over the records of a piece keeps

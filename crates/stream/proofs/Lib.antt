@@ -1,2 +1,4 @@
 pub mod Accepting
+pub mod Fed
 pub mod Feeding
+pub mod Texts

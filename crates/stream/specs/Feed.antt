@@ -18,11 +18,14 @@ use Rattle.stream.specs.declared.feed.Applied.{Applied}
 use Rattle.stream.specs.Apply.{applied, printed}
 use Rattle.stream.specs.Stream.{Stream, stream, fed, lastText}
 
--- A piece is accepted from a reader that holds an unfinished record and has counted less than 2 ^ 64 bytes with the piece, and
--- into room for all that the piece may print: every record has at least 4 bytes and prints at most 54.
+-- Room for all that some bytes may print: every record has at least 4 bytes, of which 10 may have come before, and prints at most 54.
+abbrev pub pieceRoom : ℕ → ℕ
+pieceRoom bytes = 14 * (bytes + 10)
+
+-- A piece is accepted from a reader that holds an unfinished record and has counted less than 2 ^ 64 bytes with the piece.
 unfoldable pub acceptable : Reader → ℕ → ℕ → Bool
 acceptable r bytes room =
-    leb (r .length) 10 && ltb (r .offset + r .length + bytes) (2 ^ 64) && leb (14 * (bytes + 10)) room
+    leb (r .length) 10 && ltb (r .offset + r .length + bytes) (2 ^ 64) && leb (pieceRoom bytes) room
 
 -- a text put over the first bytes of others
 abbrev pub over : List ℕ → List ℕ → List ℕ
@@ -62,15 +65,25 @@ pub record Applying (m : Machine) (r : Record) (memory out : List ℕ) (at : ℕ
   pub text : Put out at (printed r (applied r (system m memory))) out′ (a .at)
   pub room : a .at ≤ at + 54
 
--- the text of the end: at most 35 bytes for a bad record and 26 for each register
-pub record Finish : Type 0 where
+-- what a call answers, and leaves of the bytes that were lent for the text
+pub record TextOut : Type 0 where
   pub text : Text
   pub out : List ℕ
 
-abbrev pub finishResult : Text → List ℕ → Finish
-finishResult text out = record { text = text; out = out }
+abbrev pub textOut : Text → List ℕ → TextOut
+textOut text out = record { text = text; out = out }
 
-unfoldable pub finishOf : Reader → Machine → List ℕ → Finish
-finishOf r m out =
-    let text = lastText (readingOf r) (m .registers) in
-    cond (leb 3363 (length out)) (finishResult (Written (length text)) (over text out)) (finishResult NoRoom out)
+-- a text is written, or nothing is changed
+abbrev pub writtenIf : Bool → List ℕ → List ℕ → TextOut
+writtenIf fits text out = cond fits (textOut (Written (length text)) (over text out)) (textOut NoRoom out)
+
+-- into bytes that have to have so much room
+abbrev pub writtenInto : ℕ → List ℕ → List ℕ → TextOut
+writtenInto room text out = writtenIf (leb room (length out)) text out
+
+-- room for the end: at most 35 bytes for a bad record and 26 for each register
+abbrev pub lastRoom : ℕ
+lastRoom = 3363
+
+unfoldable pub finishOf : Reader → Machine → List ℕ → TextOut
+finishOf r m out = writtenInto lastRoom (lastText (readingOf r) (m .registers)) out

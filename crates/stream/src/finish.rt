@@ -4,7 +4,7 @@ ghost use lib.ListN.{length};
 ghost use Rattle.records.specs.Reader.{readingOf};
 ghost use Rattle.text.specs.Put.{Put};
 ghost use Rattle.stream.specs.Stream.{badText};
-ghost use Rattle.stream.specs.Feed.{finishResult, finishOf};
+ghost use Rattle.stream.specs.Feed.{textOut, finishOf};
 use crate::feed::Text;
 use machine::Machine;
 use records::reader::Reader;
@@ -21,12 +21,15 @@ fn put_bad(out: &mut [u8], reader: Reader) -> usize
     0
 }
 
+// What the end of a stream may print.
+pub const LAST_ROOM: usize = 3363;
+
 // At the end of a stream, writes what it prints last. It is refused, and
 // nothing is written, where `out` might be too short.
 pub fn finish(reader: Reader, machine: Machine, out: &mut [u8]) -> Text
-    ensures { λ r. ⌜ finishResult r (now (out .exit)) ≡ finishOf reader machine (now (out .entry)) ⌝ }
+    ensures { λ r. ⌜ textOut r (now (out .exit)) ≡ finishOf reader machine (now (out .entry)) ⌝ }
 {
-    if out.len() < 3363 {
+    if out.len() < LAST_ROOM {
         return Text::NoRoom;
     }
     let at = put_bad(out, reader);
