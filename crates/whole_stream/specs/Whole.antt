@@ -1,0 +1,10 @@
+-- The call that takes a whole stream, and writes its output into bytes that are lent.
+use Prim.Native.Nat.{ℕ, _+_}
+use mathlib.Core.List.{List}
+use lib.ListN.{length}
+use Rattle.stream.specs.Stream.{output}
+use Rattle.stream.specs.Feed.{pieceRoom, lastRoom, TextOut, writtenInto}
+
+-- the output, where there is room for all that so many bytes may print
+unfoldable pub runOf : List ℕ → List ℕ → TextOut
+runOf bytes out = writtenInto (pieceRoom (length bytes) + lastRoom) (output bytes) out
