@@ -1,4 +1,11 @@
 // A record stream read from a descriptor, applied to a fresh machine, and what it prints written to standard output.
+ghost use mathlib.Core.Path.{_≡_};
+ghost use lib.ListN.{length, replicate};
+ghost use Rattle.records.specs.Reader.{readingOf};
+ghost use Rattle.stream.specs.Stream.{lastText};
+ghost use Rattle.stream.specs.Feed.{streamOf};
+ghost use Rattle.stream.specs.declared.feed.Text.the-variants.{Written};
+ghost use Rattle.stream_io.specs.Output.{Next, Holds, Sends, Begun, Turned};
 use libc::STDIN_FILENO;
 use libc::STDOUT_FILENO;
 use machine::Machine;
@@ -7,21 +14,76 @@ use stream::feed::Text;
 use stream::feed::feed;
 use stream::finish::finish;
 
-// Whether the text was written; where not, this says so.
-fn write_text(text: Text, out: &[u8]) -> bool {
+enum Sent {
+    // How many bytes of the output are written.
+    Upto(u64),
+    // No more can be written, which was said.
+    Stopped,
+}
+
+// A piece that was fed, and what was written of its text.
+struct Turn {
+    reader: Reader,
+    machine: Machine,
+    sent: Sent,
+}
+
+// Writes to standard output the bytes of the output that follow the first `written`.
+fn write_next(written: u64, text: &[u8]) -> Sent
+    requires { ⌜ Next written (now text) ⌝ }
+    ensures { λ r. ⌜ Sends written (Written (length (now (text .entry)))) r ⌝ }
+{
+    if u64::MAX - written < text.len() as u64 {
+        io::write_all(libc::STDERR_FILENO, b"too much output\n");
+        return Sent::Stopped;
+    }
+    if !io::write_all(STDOUT_FILENO, text) {
+        os::fail(b"standard output");
+        return Sent::Stopped;
+    }
+    Sent::Upto(written + text.len() as u64)
+}
+
+fn write_text(written: u64, text: Text, out: &[u8]) -> Sent
+    requires { ⌜ Holds written text (now out) ⌝ }
+    ensures { λ r. ⌜ Sends written text r ⌝ }
+{
     let Text::Written(length) = text else {
         io::write_all(libc::STDERR_FILENO, b"no room for the text\n");
-        return false;
+        return Sent::Stopped;
     };
-    if out.len() < length {
-        io::write_all(libc::STDERR_FILENO, b"no room for the text\n");
-        return false;
+    write_next(written, &out[..length])
+}
+
+// Feeds a piece, and writes what it prints.
+fn run_piece(
+    reader: Reader,
+    machine: Machine,
+    written: u64,
+    piece: &[u8],
+    memory: &mut [u8],
+    out: &mut [u8],
+) -> Turn
+    requires { ⌜ Begun (streamOf reader machine (now memory)) written ⌝ }
+    ensures { λ r. ⌜ Turned (streamOf reader machine (now (memory .entry))) written (now (piece .entry)) r (now (memory .exit)) ⌝ }
+{
+    let fed = feed(reader, machine, piece, memory, out);
+    let text = fed.text;
+    let reader = fed.reader;
+    let machine = fed.machine;
+    Turn {
+        reader,
+        machine,
+        sent: write_text(written, text, out),
     }
-    if io::write_all(STDOUT_FILENO, &out[..length]) {
-        return true;
-    }
-    os::fail(b"standard output");
-    false
+}
+
+// At the end of the stream.
+fn write_last(reader: Reader, machine: Machine, written: u64, out: &mut [u8])
+    requires { ⌜ Next written (lastText (readingOf reader) (machine .registers)) ⌝ }
+{
+    let text = finish(reader, machine, out);
+    write_text(written, text, out);
 }
 
 // The next piece. There is none where reading has stopped.
@@ -40,17 +102,14 @@ fn say_unread(fd: i32) {
     os::fail(b"stream");
 }
 
-// At the end of the stream.
-fn write_last(reader: Reader, machine: Machine, out: &mut [u8]) {
-    let text = finish(reader, machine, out);
-    write_text(text, out);
-}
-
 // A proved loop has to end, and nothing says that the input does: so it counts its turns down,
 // from a number that no run uses up.
-fn run(fd: i32, memory: &mut [u8], out: &mut [u8]) {
+fn run(fd: i32, memory: &mut [u8], out: &mut [u8])
+    requires { ⌜ now memory ≡ replicate 4096 0 ⌝ }
+{
     let mut reader = Reader::fresh();
     let mut machine = Machine::fresh();
+    let mut written: u64 = 0;
     let mut turns = u64::MAX;
     while turns > 0 {
         let mut piece = io::buffer();
@@ -60,17 +119,18 @@ fn run(fd: i32, memory: &mut [u8], out: &mut [u8]) {
             return;
         }
         if got == 0 {
-            write_last(reader, machine, out);
+            write_last(reader, machine, written, out);
             return;
         }
         let n = io::count(got, &piece);
-        let fed = feed(reader, machine, &piece[..n], memory, out);
-        reader = fed.reader;
-        machine = fed.machine;
-        let text = fed.text;
-        if !write_text(text, out) {
+        let turn = run_piece(reader, machine, written, &piece[..n], memory, out);
+        reader = turn.reader;
+        machine = turn.machine;
+        let sent = turn.sent;
+        let Sent::Upto(next) = sent else {
             return;
-        }
+        };
+        written = next;
         turns -= 1;
     }
 }

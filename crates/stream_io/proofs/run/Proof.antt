@@ -1,27 +1,43 @@
-use mathlib.Core.Path.{_≡_, _∙_}
+use Prim.Native.Nat.{ℕ}
+use mathlib.Core.Path.{_≡_, refl, _∙_}
+use mathlib.Core.List.{_++_}
 use lib.ListN.{length}
+use Rattle.stream.specs.Feed.{streamOf}
+use Rattle.stream_io.specs.Output.{Begun}
+use Rattle.stream_io.proofs.Onward.{begun, last-text}
 use borrow.Author.Needs.{needs}
 use native.Mathlib.Omega.{arith}
 use Rattle.stream_io.proofs.run.Statement.{statement}
 use Rattle.stream_io.proofs.run.Tie as tie
 
 abbrev Inv-loop : tie.InvT-loop
-Inv-loop fd memory₀ out₀ reader₀ machine₀ turns₀ memory out reader machine turns = (length memory ≡ length memory₀) × (length out ≡ length out₀)
+Inv-loop fd memory₀ out₀ reader₀ machine₀ written₀ turns₀ memory out reader machine written turns =
+    (length memory ≡ length memory₀) × (length out ≡ length out₀) × Begun (streamOf reader machine memory) written
 
 abbrev μ-loop : tie.MeasureT-loop
-μ-loop fd memory₀ out₀ reader₀ machine₀ turns₀ memory out reader machine turns = turns
+μ-loop fd memory₀ out₀ reader₀ machine₀ written₀ turns₀ memory out reader machine written turns = turns
+
+loop-holds : tie.Need-loop-holds Inv-loop μ-loop
+loop-holds c =
+    let s = c .before .before .before .before in
+    (refl, refl, begun _ _ _ (c .before .fresh .ensures) (c .fresh2 .ensures) (s .pre))
+
+write-last-requires : tie.Need-write-last-requires Inv-loop μ-loop
+write-last-requires c κs =
+    let l = c .before .before .before .before .before .before .before .before in
+    last-text _ _ _ (l .loop .inv .2 .reached)
 
 same-length-5 : tie.Need-same-length-5 Inv-loop μ-loop
 same-length-5 c =
-    let f = c .before .before .before .before .before .before .before .before .before in
-    let l = f .before .before .before .before .before .before .before .before .before .before .before .before .before in
-    f .feed .kept .1 .1 .1 .0 ∙ l .loop .inv .0
+    let p = c .before .before .before .before .before .before .before .before in
+    let l = p .before .before .before .before .before .before .before .before .before .before .before .before .before in
+    p .run-piece .kept .1 .1 .1 .1 .0 ∙ l .loop .inv .0
 
 same-length-6 : tie.Need-same-length-6 Inv-loop μ-loop
 same-length-6 c =
-    let f = c .before .before .before .before .before .before .before .before .before in
-    let l = f .before .before .before .before .before .before .before .before .before .before .before .before .before in
-    f .feed .kept .1 .1 .1 .1 .0 ∙ l .loop .inv .1
+    let p = c .before .before .before .before .before .before .before .before in
+    let l = p .before .before .before .before .before .before .before .before .before .before .before .before .before in
+    p .run-piece .kept .1 .1 .1 .1 .1 .0 ∙ l .loop .inv .1
 
 sub-turns : tie.Need-sub-turns Inv-loop μ-loop
 sub-turns c =
@@ -35,9 +51,15 @@ loop-less c =
 
 loop-again : tie.Need-loop-again Inv-loop μ-loop
 loop-again c =
-    let f = c .before .before .before .before .before .before .before .before .before in
-    let l = f .before .before .before .before .before .before .before .before .before .before .before .before .before in
-    (f .feed .kept .1 .1 .1 .0 ∙ l .loop .inv .0, f .feed .kept .1 .1 .1 .1 .0 ∙ l .loop .inv .1)
+    let p = c .before .before .before .before .before .before .before .before .before in
+    let l = p .before .before .before .before .before .before .before .before .before .before .before .before .before in (
+      p .run-piece .kept .1 .1 .1 .1 .0 ∙ l .loop .inv .0,
+      p .run-piece .kept .1 .1 .1 .1 .1 .0 ∙ l .loop .inv .1,
+      record {
+        bytes = l .loop .inv .2 .bytes ++ _;
+        reached = p .run-piece .ensures .onward _ _ (l .loop .inv .2 .reached) (c .before .sent .given .1);
+      },
+    )
 
 pub run-spec : {M : Type 1} → statement M
 run-spec =
@@ -47,7 +69,7 @@ run-spec =
     μ-loop
     (λ c κs. search needs)
     (λ c κs. search needs)
-    (λ c. search needs)
+    loop-holds
     (λ c κs. search needs)
     (λ c. search needs)
     (λ c κs. search needs)
@@ -55,7 +77,7 @@ run-spec =
     (λ c. search needs)
     (λ c. search needs)
     (λ c. search needs)
-    (λ c κs. search needs)
+    write-last-requires
     (λ c. search needs)
     (λ c. search needs)
     (λ c. search needs)
@@ -64,7 +86,8 @@ run-spec =
     (λ c. search needs)
     (λ c. search needs)
     (λ c κs. search needs)
-    (λ c κs. search needs)
+    (λ c. search needs)
+    (λ c. search needs)
     same-length-5
     same-length-6
     (λ c. search needs)
