@@ -18,16 +18,21 @@ use Rattle.stream.specs.Stream.{Stream, Fed, fed, lastText, finished, freshStre
 use Rattle.stream.specs.Feed.{acceptable, streamOf, feedResult, feedOf, textOut, writtenIf, lastRoom, finishOf}
 use Rattle.stream.proofs.Fed.{fed-append}
 use Rattle.stream.proofs.Texts.{Wrote, wrote-within, wrote-text, written-if, fed-text, fed-stream}
-use Rattle.stream_io.specs.Output.{Next, Holds, Sends, Reached, Begun, Turned}
+use Rattle.stream_io.specs.Output.{Next, Holds, Sends}
 use Rattle.stream_io.specs.declared.Sent.{Sent}
 use Rattle.stream_io.specs.declared.Sent.the-variants.{Upto, Stopped}
 
--- the fresh stream, with nothing written
+-- Some bytes lead from the fresh stream to this one, and all that they print is written.
+pub record Reached (s : Stream) (written : ℕ) : Type 0 where
+  pub bytes : List ℕ
+  pub stream : s ≡ fed freshStream bytes .stream
+  pub text : written ≡ length (fed freshStream bytes .text)
+
 pub begun :
     (r : Reader) (m : Machine) (memory : List ℕ) → r ≡ freshReader → m ≡ freshMachine → memory ≡ replicate 4096 0 →
-    Begun (streamOf r m memory) 0
+    Reached (streamOf r m memory) 0
 unfolding fed
-begun r m memory a b e = rw (a, b, e) (record { bytes = []; reached = record { stream = refl; text = refl } })
+begun r m memory a b e = rw (a, b, e) (record { bytes = []; stream = refl; text = refl })
 
 pub sends : (written k : ℕ) → Sends written (Written k) (Upto (written + k))
 sends written k = record { upto = λ n e. let same : written + k ≡ n = cc in (omega arith, ap Written (omega arith)) }
@@ -40,27 +45,31 @@ pub sends-part :
     (out : List ℕ) (n written : ℕ) (t : Text) (s : Sent) → t ≡ Written n → n ≤ length out → Sends written (Written (length (take n out))) s → Sends written t s
 sends-part out n written t s e h sent = rw e (rw (length-take-le n out h) at sent)
 
-module _ (bytes : List ℕ) (s : Stream) (written : ℕ) (r : Reached bytes s written) where
-  -- what follows the text of the bytes so far
-  rest : (later : List ℕ) → later ≡ drop written (fed freshStream bytes .text ++ later)
-  rest later = rw (r .text) (sym (drop-append-seam (fed freshStream bytes .text) later))
+module _ (s : Stream) (written : ℕ) (r : Reached s written) where
+  abbrev sofar : Fed
+  sofar = fed freshStream (r .bytes)
 
-  more : (piece : List ℕ) → fed freshStream (bytes ++ piece) .text ≡ fed freshStream bytes .text ++ fed s piece .text
-  more piece = ap (λ (f : Fed). f .text) (fed-append freshStream bytes piece) ∙ rw (← r .stream)
+  rest : (later : List ℕ) → later ≡ drop written (sofar .text ++ later)
+  rest later = rw (r .text) (sym (drop-append-seam (sofar .text) later))
 
-  pub next-text : (piece : List ℕ) → Next written (fed s piece .text)
-  next-text piece = record { bytes = bytes ++ piece; ended = false; same = rw (more piece) (rest (fed s piece .text)) }
+  more : (piece : List ℕ) → fed freshStream (r .bytes ++ piece) .text ≡ sofar .text ++ fed s piece .text
+  more piece = ap (λ (f : Fed). f .text) (fed-append freshStream (r .bytes) piece) ∙ rw (← r .stream)
+
+  next-text : (piece : List ℕ) → Next written (fed s piece .text)
+  next-text piece = record { bytes = r .bytes ++ piece; ended = false; same = rw (more piece) (rest (fed s piece .text)) }
 
   pub last-text : Next written (finished s)
   unfolding output
-  last-text = record { bytes = bytes; ended = true; same = rw (← r .stream) (rest (finished s)) }
+  last-text = record { bytes = r .bytes; ended = true; same = rw (← r .stream) (rest (finished s)) }
 
-  pub onward :
+  onward :
       (piece : List ℕ) (s′ : Stream) (n : ℕ) → s′ ≡ fed s piece .stream → written ≤ n → n - written ≡ length (fed s piece .text) →
-      Reached (bytes ++ piece) s′ n
+      Reached s′ n
   onward piece s′ n e h size = record {
-    stream = e ∙ ap (λ (x : Stream). fed x piece .stream) (r .stream) ∙ sym (ap (λ (f : Fed). f .stream) (fed-append freshStream bytes piece));
-    text = omega (arith, r .text, size, ap (λ (l : List ℕ). length l) (more piece), length-append (fed freshStream bytes .text) (fed s piece .text));
+    bytes = r .bytes ++ piece;
+    stream =
+        e ∙ ap (λ (x : Stream). fed x piece .stream) (r .stream) ∙ sym (ap (λ (f : Fed). f .stream) (fed-append freshStream (r .bytes) piece));
+    text = omega (arith, r .text, size, ap (λ (l : List ℕ). length l) (more piece), length-append (sofar .text) (fed s piece .text));
   }
 
 -- what a call left is the next text, where that follows what was written
@@ -86,17 +95,14 @@ module _ (reader : Reader) (machine : Machine) (piece memory out : List ℕ) (r 
     text-same : textOut (r .text) out′ ≡ writtenIf (acceptable reader (length piece) (length out)) (fed before piece .text) out
     text-same = fed-text reader machine piece memory out r memory′ out′ same
 
-    pub holds-fed : Begun before written → Holds written (r .text) out′
-    holds-fed b =
-        holds (acceptable reader (length piece) (length out)) (fed before piece .text) out text-same (next-text (b .bytes) before written (b .reached) piece)
+    module _ (reached : Reached before written) where
+      pub holds-fed : Holds written (r .text) out′
+      holds-fed =
+          holds (acceptable reader (length piece) (length out)) (fed before piece .text) out text-same (next-text before written reached piece)
 
-    pub turned :
-        (s : Sent) → Sends written (r .text) s →
-        Turned before written piece (record { reader = r .reader; machine = r .machine; sent = s }) memory′
-    turned s sent = record {
-      onward = λ bytes n reached e.
-          let u = sent .upto n e in
+      pub fed-onward : (s : Sent) (n : ℕ) → Sends written (r .text) s → s ≡ Upto n → Reached (streamOf (r .reader) (r .machine) memory′) n
+      fed-onward s n sends e =
+          let u = sends .upto n e in
           let w : (acceptable reader (length piece) (length out) ≡ true) × Wrote (fed before piece .text) out (n - written) out′ = written-if _ text-same (u .1) in
-          onward bytes before written reached piece (streamOf (r .reader) (r .machine) memory′) n
-          (fed-stream reader machine piece memory out r memory′ out′ same (w .0)) (u .0) (w .1 .size);
-    }
+          onward before written reached piece (streamOf (r .reader) (r .machine) memory′) n
+          (fed-stream reader machine piece memory out r memory′ out′ same (w .0)) (u .0) (w .1 .size)

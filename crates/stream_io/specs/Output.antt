@@ -1,16 +1,14 @@
--- What the runner may write, and what its loop keeps.
+-- What the runner may write.
 use Prim.Native.Nat.{ℕ, _-_, _≤_}
 use mathlib.Core.Path.{_≡_}
 use mathlib.Core.Bool.{Bool, cond}
-use mathlib.Core.List.{List, _++_}
+use mathlib.Core.List.{List}
 use lib.ListN.{length, take, drop}
 use Rattle.stream.specs.declared.feed.Text.{Text}
 use Rattle.stream.specs.declared.feed.Text.the-variants.{Written}
-use Rattle.stream.specs.Stream.{Stream, fed, freshStream, output}
-use Rattle.stream.specs.Feed.{streamOf}
+use Rattle.stream.specs.Stream.{fed, freshStream, output}
 use Rattle.stream_io.specs.declared.Sent.{Sent}
 use Rattle.stream_io.specs.declared.Sent.the-variants.{Upto}
-use Rattle.stream_io.specs.declared.Turn.{Turn}
 
 -- The text is what some bytes of a stream print from a place on: so far, or in all, when no more follow.
 pub record Next (written : ℕ) (text : List ℕ) : Type 0 where
@@ -25,18 +23,3 @@ pub record Holds (written : ℕ) (t : Text) (out : List ℕ) : Type 0 where
 -- so many bytes more are written, or no more can be
 pub record Sends (written : ℕ) (t : Text) (s : Sent) : Type 0 where
   pub upto : (n : ℕ) → s ≡ Upto n → (written ≤ n) × (t ≡ Written (n - written))
-
--- Some bytes lead from the fresh stream to this one, and all that they print is written.
-pub record Reached (bytes : List ℕ) (s : Stream) (written : ℕ) : Type 0 where
-  pub stream : s ≡ fed freshStream bytes .stream
-  pub text : written ≡ length (fed freshStream bytes .text)
-
-pub record Begun (s : Stream) (written : ℕ) : Type 0 where
-  pub bytes : List ℕ
-  pub reached : Reached bytes s written
-
--- a piece more, where what it prints was written
-pub record Turned (s : Stream) (written : ℕ) (piece : List ℕ) (t : Turn) (memory : List ℕ) : Type 0 where
-  pub onward :
-      (bytes : List ℕ) (n : ℕ) → Reached bytes s written → t .sent ≡ Upto n →
-      Reached (bytes ++ piece) (streamOf (t .reader) (t .machine) memory) n

@@ -3,9 +3,8 @@ ghost use mathlib.Core.Path.{_≡_};
 ghost use lib.ListN.{length, replicate};
 ghost use Rattle.records.specs.Reader.{readingOf};
 ghost use Rattle.stream.specs.Stream.{lastText};
-ghost use Rattle.stream.specs.Feed.{streamOf};
 ghost use Rattle.stream.specs.declared.feed.Text.the-variants.{Written};
-ghost use Rattle.stream_io.specs.Output.{Next, Holds, Sends, Begun, Turned};
+ghost use Rattle.stream_io.specs.Output.{Next, Holds, Sends};
 use libc::STDIN_FILENO;
 use libc::STDOUT_FILENO;
 use machine::Machine;
@@ -19,13 +18,6 @@ enum Sent {
     Upto(u64),
     // No more can be written, which was said.
     Stopped,
-}
-
-// A piece that was fed, and what was written of its text.
-struct Turn {
-    reader: Reader,
-    machine: Machine,
-    sent: Sent,
 }
 
 // Writes to standard output the bytes of the output that follow the first `written`.
@@ -53,29 +45,6 @@ fn write_text(written: u64, text: Text, out: &[u8]) -> Sent
         return Sent::Stopped;
     };
     write_next(written, &out[..length])
-}
-
-// Feeds a piece, and writes what it prints.
-fn run_piece(
-    reader: Reader,
-    machine: Machine,
-    written: u64,
-    piece: &[u8],
-    memory: &mut [u8],
-    out: &mut [u8],
-) -> Turn
-    requires { ⌜ Begun (streamOf reader machine (now memory)) written ⌝ }
-    ensures { λ r. ⌜ Turned (streamOf reader machine (now (memory .entry))) written (now (piece .entry)) r (now (memory .exit)) ⌝ }
-{
-    let fed = feed(reader, machine, piece, memory, out);
-    let text = fed.text;
-    let reader = fed.reader;
-    let machine = fed.machine;
-    Turn {
-        reader,
-        machine,
-        sent: write_text(written, text, out),
-    }
 }
 
 // At the end of the stream.
@@ -123,10 +92,11 @@ fn run(fd: i32, memory: &mut [u8], out: &mut [u8])
             return;
         }
         let n = io::count(got, &piece);
-        let turn = run_piece(reader, machine, written, &piece[..n], memory, out);
-        reader = turn.reader;
-        machine = turn.machine;
-        let sent = turn.sent;
+        let fed = feed(reader, machine, &piece[..n], memory, out);
+        reader = fed.reader;
+        machine = fed.machine;
+        let text = fed.text;
+        let sent = write_text(written, text, out);
         let Sent::Upto(next) = sent else {
             return;
         };

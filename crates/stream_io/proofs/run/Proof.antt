@@ -1,10 +1,7 @@
-use Prim.Native.Nat.{ℕ}
 use mathlib.Core.Path.{_≡_, refl, _∙_}
-use mathlib.Core.List.{_++_}
 use lib.ListN.{length}
 use Rattle.stream.specs.Feed.{streamOf}
-use Rattle.stream_io.specs.Output.{Begun}
-use Rattle.stream_io.proofs.Onward.{begun, last-text}
+use Rattle.stream_io.proofs.Onward.{Reached, begun, last-text, holds-fed, fed-onward}
 use borrow.Author.Needs.{needs}
 use native.Mathlib.Omega.{arith}
 use Rattle.stream_io.proofs.run.Statement.{statement}
@@ -12,53 +9,56 @@ use Rattle.stream_io.proofs.run.Tie as tie
 
 abbrev Inv-loop : tie.InvT-loop
 Inv-loop fd memory₀ out₀ reader₀ machine₀ written₀ turns₀ memory out reader machine written turns =
-    (length memory ≡ length memory₀) × (length out ≡ length out₀) × Begun (streamOf reader machine memory) written
+    (length memory ≡ length memory₀) × (length out ≡ length out₀) × Reached (streamOf reader machine memory) written
 
 abbrev μ-loop : tie.MeasureT-loop
 μ-loop fd memory₀ out₀ reader₀ machine₀ written₀ turns₀ memory out reader machine written turns = turns
 
 loop-holds : tie.Need-loop-holds Inv-loop μ-loop
 loop-holds c =
-    let s = c .before .before .before .before in
-    (refl, refl, begun _ _ _ (c .before .fresh .ensures) (c .fresh2 .ensures) (s .pre))
+    (refl, refl, begun _ _ _ (c .before .fresh .ensures) (c .fresh2 .ensures) (c .before .before .before .before .pre))
 
 write-last-requires : tie.Need-write-last-requires Inv-loop μ-loop
 write-last-requires c κs =
     let l = c .before .before .before .before .before .before .before .before in
-    last-text _ _ _ (l .loop .inv .2 .reached)
+    last-text _ _ (l .loop .inv .2)
+
+write-text-requires : tie.Need-write-text-requires Inv-loop μ-loop
+write-text-requires c κs =
+    let f = c .before .before .before .before .before .before .before in
+    let l = f .before .before .before .before .before .before .before .before .before .before .before .before .before in
+    holds-fed _ _ _ _ _ _ _ _ (f .feed .ensures) _ (l .loop .inv .2)
 
 same-length-5 : tie.Need-same-length-5 Inv-loop μ-loop
 same-length-5 c =
-    let p = c .before .before .before .before .before .before .before .before in
-    let l = p .before .before .before .before .before .before .before .before .before .before .before .before .before in
-    p .run-piece .kept .1 .1 .1 .1 .0 ∙ l .loop .inv .0
+    let f = c .before .before .before .before .before .before .before .before .before .before in
+    let l = f .before .before .before .before .before .before .before .before .before .before .before .before .before in
+    f .feed .kept .1 .1 .1 .0 ∙ l .loop .inv .0
 
 same-length-6 : tie.Need-same-length-6 Inv-loop μ-loop
 same-length-6 c =
-    let p = c .before .before .before .before .before .before .before .before in
-    let l = p .before .before .before .before .before .before .before .before .before .before .before .before .before in
-    p .run-piece .kept .1 .1 .1 .1 .1 .0 ∙ l .loop .inv .1
+    let f = c .before .before .before .before .before .before .before .before .before .before in
+    let l = f .before .before .before .before .before .before .before .before .before .before .before .before .before in
+    f .feed .kept .1 .1 .1 .1 .0 ∙ l .loop .inv .1
 
 sub-turns : tie.Need-sub-turns Inv-loop μ-loop
 sub-turns c =
-    let l = c .before .before .before .before .before .before .before .before .before .before .before .before .before .before .before .before .before .before .before .before .before in
+    let l = c .before .before .before .before .before .before .before .before .before .before .before .before .before .before .before .before .before .before .before .before .before .before .before in
     omega (arith, l .loop-test .taken)
 
 loop-less : tie.Need-loop-less Inv-loop μ-loop
 loop-less c =
-    let l = c .before .before .before .before .before .before .before .before .before .before .before .before .before .before .before .before .before .before .before .before .before in
+    let l = c .before .before .before .before .before .before .before .before .before .before .before .before .before .before .before .before .before .before .before .before .before .before .before in
     omega (arith, l .loop-test .taken)
 
 loop-again : tie.Need-loop-again Inv-loop μ-loop
 loop-again c =
-    let p = c .before .before .before .before .before .before .before .before .before in
-    let l = p .before .before .before .before .before .before .before .before .before .before .before .before .before in (
-      p .run-piece .kept .1 .1 .1 .1 .0 ∙ l .loop .inv .0,
-      p .run-piece .kept .1 .1 .1 .1 .1 .0 ∙ l .loop .inv .1,
-      record {
-        bytes = l .loop .inv .2 .bytes ++ _;
-        reached = p .run-piece .ensures .onward _ _ (l .loop .inv .2 .reached) (c .before .sent .given .1);
-      },
+    let w = c .before .before .before in
+    let f = w .before .before .before .before .before .before .before .before in
+    let l = f .before .before .before .before .before .before .before .before .before .before .before .before .before in (
+      f .feed .kept .1 .1 .1 .0 ∙ l .loop .inv .0,
+      f .feed .kept .1 .1 .1 .1 .0 ∙ l .loop .inv .1,
+      fed-onward _ _ _ _ _ _ _ _ (f .feed .ensures) _ (l .loop .inv .2) _ _ (w .write-text .ensures) (c .before .sent .given .1),
     )
 
 pub run-spec : {M : Type 1} → statement M
@@ -86,6 +86,7 @@ run-spec =
     (λ c. search needs)
     (λ c. search needs)
     (λ c κs. search needs)
+    write-text-requires
     (λ c. search needs)
     (λ c. search needs)
     same-length-5
