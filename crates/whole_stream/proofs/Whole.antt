@@ -2,7 +2,7 @@
 use Prim.Native.Nat.{ℕ, _+_, _-_, _^_, _<_, _≤_}
 use native.Mathlib.Omega.{arith}
 use mathlib.Core.Path.{_≡_, ap, _∙_}
-use mathlib.Core.Bool.{true}
+use mathlib.Core.Bool.{Bool, true}
 use mathlib.Core.List.{List, [], _++_, append-assoc, append-nil}
 use borrow.Author.Tests.{le-leb, lt-leb, leb-false}
 use borrow.Rule.Slice.PartAt.{part-to-end}
@@ -16,7 +16,7 @@ use Rattle.stream.specs.declared.feed.Text.{Text}
 use Rattle.stream.specs.declared.feed.Text.the-variants.{Written, NoRoom}
 use Rattle.stream.specs.declared.feed.Fed as declared
 use Rattle.stream.specs.Stream.{Fed, fed, finished, freshStream, output}
-use Rattle.stream.specs.Feed.{pieceRoom, lastRoom, acceptable, feedResult, feedOf, streamOf, finishOf, textOut, writtenInto}
+use Rattle.stream.specs.Feed.{pieceRoom, lastRoom, acceptable, feedResult, feedOf, streamOf, finishOf, textOut, writtenIf, writtenInto}
 use Rattle.stream.proofs.Accepting.{by-room, accepted}
 use Rattle.stream.proofs.Texts.{Wrote, wrote-within, wrote-more, written-if, refused-if, fed-text, fed-stream}
 use Rattle.whole_stream.specs.Whole.{runOf}
@@ -41,9 +41,15 @@ module _ {bytes out memory part : List ℕ} {r : declared.Fed} (g : Given bytes 
   abbrev first : Fed
   first = fed freshStream bytes
 
+  abbrev fits : Bool
+  fits = acceptable freshReader (length bytes) (length (take room out))
+
   -- `out` with its first part fed
   abbrev now : List ℕ
   now = part ++ drop room out
+
+  text-same : textOut (r .text) part ≡ writtenIf fits (first .text) (take room out)
+  text-same = fed-text freshReader freshMachine bytes (replicate 4096 0) (take room out) r memory part (g .same)
 
   room-length : length (take room out) ≡ room
   room-length = length-take-le room out (omega arith)
@@ -51,19 +57,20 @@ module _ {bytes out memory part : List ℕ} {r : declared.Fed} (g : Given bytes 
   pub refused : r .text ≡ NoRoom → textOut NoRoom now ≡ runOf bytes out
   unfolding runOf
   refused e =
-      let none = refused-if _ (first .text) (fed-text freshReader freshMachine bytes (replicate 4096 0) (take room out) r memory part (g .same)) e in
-      let short = leb-false (pieceRoom (length bytes)) (length (take room out)) (by-room freshReader (length bytes) (length (take room out)) (omega arith) (omega arith) ∙ none .0) in
+      let none = refused-if _ (first .text) text-same e in
+      let test = by-room freshReader (length bytes) (length (take room out)) (omega arith) (omega arith) ∙ none .0 in
+      let short = leb-false (pieceRoom (length bytes)) (length (take room out)) test in
       rw (none .1, take-append-drop, lt-leb (pieceRoom (length bytes) + lastRoom) (length out) (omega (arith, short, room-length)))
 
   module _ (n : ℕ) (told : r .text ≡ Written n) where
-    wrote : (acceptable freshReader (length bytes) (length (take room out)) ≡ true) × Wrote (first .text) (take room out) n part
-    wrote = written-if _ (fed-text freshReader freshMachine bytes (replicate 4096 0) (take room out) r memory part (g .same)) told
+    wrote : (fits ≡ true) × Wrote (first .text) (take room out) n part
+    wrote = written-if _ text-same told
 
     within : n ≤ room
     within = omega (arith, wrote-within (wrote .1), g .kept, room-length)
 
-    fits : pieceRoom (length bytes) + lastRoom ≤ length out
-    fits = omega (arith, accepted freshReader (length bytes) (length (take room out)) (wrote .0) .roomy, room-length)
+    roomy : pieceRoom (length bytes) + lastRoom ≤ length out
+    roomy = omega (arith, accepted freshReader (length bytes) (length (take room out)) (wrote .0) .roomy, room-length)
 
     all : Wrote (first .text) out n now
     all = record {
@@ -105,4 +112,4 @@ module _ {bytes out memory part : List ℕ} {r : declared.Fed} (g : Given bytes 
       total m e =
           let w = wrote-more all (wrote-end m e) in
           let none : drop (length now - n) (drop n now) ≡ [] = post-is n (length now) now inside ∙ drop-length now in
-          rw (none, append-nil, w .size, w .bytes, le-leb (pieceRoom (length bytes) + lastRoom) (length out) fits)
+          rw (none, append-nil, w .size, w .bytes, le-leb (pieceRoom (length bytes) + lastRoom) (length out) roomy)
