@@ -18,7 +18,7 @@ use Rattle.stream.specs.Stream.{Stream, Fed, fed, lastText, finished, freshStre
 use Rattle.stream.specs.Feed.{acceptable, streamOf, feedResult, feedOf, textOut, writtenIf, lastRoom, finishOf}
 use Rattle.stream.proofs.Fed.{fed-append}
 use Rattle.stream.proofs.Texts.{Wrote, wrote-within, wrote-text, written-if, fed-text, fed-stream}
-use Rattle.stream_io.specs.Output.{Next, Holds, Sends}
+use Rattle.stream_io.specs.Output.{Next, Holds, Sends, Whole}
 use Rattle.stream_io.specs.declared.Sent.{Sent}
 use Rattle.stream_io.specs.declared.Sent.the-variants.{Upto, Stopped}
 
@@ -39,6 +39,9 @@ sends written k = record { upto = λ n e. let same : written + k ≡ n = cc in (
 
 pub stopped : (written : ℕ) (t : Text) → Sends written t Stopped
 stopped written t = record { upto = λ n e. absurd (let z : _≡_ {A = ℕ} 0 1 = cc in omega arith) }
+
+pub not-whole : Whole Stopped
+not-whole = record { all = λ n e. absurd (let z : _≡_ {A = ℕ} 0 1 = cc in omega arith) }
 
 -- the text as it stands in `out`
 pub sends-part :
@@ -61,6 +64,15 @@ module _ (s : Stream) (written : ℕ) (r : Reached s written) where
   pub last-text : Next written (finished s)
   unfolding output
   last-text = record { bytes = r .bytes; ended = true; same = rw (← r .stream) (rest (finished s)) }
+
+  pub whole : (t : Sent) → Sends written (Written (length (finished s))) t → Whole t
+  unfolding output
+  whole t sends = record {
+    all = λ n e.
+        let u = sends .upto n e in
+        let size : length (finished s) ≡ n - written = cc (u .1) in
+        (r .bytes, omega (arith, u .0, size, r .text, length-append (sofar .text) (finished (sofar .stream)), ap (λ (x : Stream). length (finished x)) (r .stream)));
+  }
 
   onward :
       (piece : List ℕ) (s′ : Stream) (n : ℕ) → s′ ≡ fed s piece .stream → written ≤ n → n - written ≡ length (fed s piece .text) →
@@ -85,6 +97,17 @@ pub holds-last :
     Next written (lastText (readingOf r) (m .registers)) → Holds written t out′
 unfolding finishOf
 holds-last r m out out′ written t same next = holds (leb lastRoom (length out)) (lastText (readingOf r) (m .registers)) out same next
+
+pub sends-last :
+    (r : Reader) (m : Machine) (out out′ : List ℕ) (written : ℕ) (t : Text) (s : Sent) → textOut t out′ ≡ finishOf r m out →
+    Sends written t s → Sends written (Written (length (lastText (readingOf r) (m .registers)))) s
+unfolding finishOf
+sends-last r m out out′ written t s same sends = record {
+  upto = λ n e.
+      let u = sends .upto n e in
+      let w : (leb lastRoom (length out) ≡ true) × Wrote (lastText (readingOf r) (m .registers)) out (n - written) out′ = written-if _ same (u .1) in
+      (u .0, ap Written (sym (w .1 .size)));
+}
 
 module _ (reader : Reader) (machine : Machine) (piece memory out : List ℕ) (r : declared.Fed) (memory′ out′ : List ℕ)
     (same : feedResult r memory′ out′ ≡ feedOf reader machine piece memory out) (written : ℕ)

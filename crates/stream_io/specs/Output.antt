@@ -23,3 +23,7 @@ pub record Holds (written : ℕ) (t : Text) (out : List ℕ) : Type 0 where
 -- so many bytes more are written, or no more can be
 pub record Sends (written : ℕ) (t : Text) (s : Sent) : Type 0 where
   pub upto : (n : ℕ) → s ≡ Upto n → (written ≤ n) × (t ≡ Written (n - written))
+
+-- a number that is answered at the end counts the output of some bytes, whole
+pub record Whole (s : Sent) : Type 0 where
+  pub all : (n : ℕ) → s ≡ Upto n → (bytes : List ℕ) × (n ≡ length (output bytes))

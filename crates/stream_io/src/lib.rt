@@ -4,7 +4,7 @@ ghost use lib.ListN.{length, replicate};
 ghost use Rattle.records.specs.Reader.{readingOf};
 ghost use Rattle.stream.specs.Stream.{lastText};
 ghost use Rattle.stream.specs.declared.feed.Text.the-variants.{Written};
-ghost use Rattle.stream_io.specs.Output.{Next, Holds, Sends};
+ghost use Rattle.stream_io.specs.Output.{Next, Holds, Sends, Whole};
 use libc::STDIN_FILENO;
 use libc::STDOUT_FILENO;
 use machine::Machine;
@@ -13,10 +13,10 @@ use stream::feed::Text;
 use stream::feed::feed;
 use stream::finish::finish;
 
-enum Sent {
+pub enum Sent {
     // How many bytes of the output are written.
     Upto(u64),
-    // No more can be written, which was said.
+    // The rest can't be read or written.
     Stopped,
 }
 
@@ -48,11 +48,12 @@ fn write_text(written: u64, text: Text, out: &[u8]) -> Sent
 }
 
 // At the end of the stream.
-fn write_last(reader: Reader, machine: Machine, written: u64, out: &mut [u8])
+fn write_last(reader: Reader, machine: Machine, written: u64, out: &mut [u8]) -> Sent
     requires { ⌜ Next written (lastText (readingOf reader) (machine .registers)) ⌝ }
+    ensures { λ r. ⌜ Sends written (Written (length (lastText (readingOf reader) (machine .registers)))) r ⌝ }
 {
     let text = finish(reader, machine, out);
-    write_text(written, text, out);
+    write_text(written, text, out)
 }
 
 // The next piece. There is none where reading has stopped.
@@ -73,8 +74,9 @@ fn say_unread(fd: i32) {
 
 // A proved loop has to end, and nothing says that the input does: so it counts its turns down,
 // from a number that no run uses up.
-fn run(fd: i32, memory: &mut [u8], out: &mut [u8])
+fn run(fd: i32, memory: &mut [u8], out: &mut [u8]) -> Sent
     requires { ⌜ now memory ≡ replicate 4096 0 ⌝ }
+    ensures { λ r. ⌜ Whole r ⌝ }
 {
     let mut reader = Reader::fresh();
     let mut machine = Machine::fresh();
@@ -85,11 +87,10 @@ fn run(fd: i32, memory: &mut [u8], out: &mut [u8])
         let got = read_piece(fd, reader.stopped, &mut piece);
         if got < 0 {
             say_unread(fd);
-            return;
+            return Sent::Stopped;
         }
         if got == 0 {
-            write_last(reader, machine, written, out);
-            return;
+            return write_last(reader, machine, written, out);
         }
         let n = io::count(got, &piece);
         let fed = feed(reader, machine, &piece[..n], memory, out);
@@ -98,17 +99,20 @@ fn run(fd: i32, memory: &mut [u8], out: &mut [u8])
         let text = fed.text;
         let sent = write_text(written, text, out);
         let Sent::Upto(next) = sent else {
-            return;
+            return Sent::Stopped;
         };
         written = next;
         turns -= 1;
     }
+    Sent::Stopped
 }
 
 // Runs the stream of a descriptor on a fresh machine with 4,096 zero bytes of memory.
-pub fn run_descriptor(fd: i32) {
+pub fn run_descriptor(fd: i32) -> Sent
+    ensures { λ r. ⌜ Whole r ⌝ }
+{
     let mut memory = [0u8; 4096];
     // What a piece of 4,096 bytes may print.
     let mut out = [0u8; 57484];
-    run(fd, &mut memory, &mut out);
+    run(fd, &mut memory, &mut out)
 }

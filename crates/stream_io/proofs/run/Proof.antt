@@ -1,7 +1,7 @@
 use mathlib.Core.Path.{_≡_, refl, _∙_}
 use lib.ListN.{length}
 use Rattle.stream.specs.Feed.{streamOf}
-use Rattle.stream_io.proofs.Onward.{Reached, begun, last-text, holds-fed, fed-onward}
+use Rattle.stream_io.proofs.Onward.{Reached, begun, last-text, not-whole, whole, holds-fed, fed-onward}
 use borrow.Author.Needs.{needs}
 use native.Mathlib.Omega.{arith}
 use Rattle.stream_io.proofs.run.Statement.{statement}
@@ -22,6 +22,21 @@ write-last-requires : tie.Need-write-last-requires Inv-loop μ-loop
 write-last-requires c κs =
     let l = c .before .before .before .before .before .before .before .before in
     last-text _ _ (l .loop .inv .2)
+
+returns : tie.Need-returns Inv-loop μ-loop
+returns c = not-whole
+
+returns-2 : tie.Need-returns-2 Inv-loop μ-loop
+returns-2 c =
+    let w = c .before .before in
+    let l = w .before .before .before .before .before .before .before .before .before in
+    whole _ _ (l .loop .inv .2) _ (w .write-last .ensures)
+
+returns-3 : tie.Need-returns-3 Inv-loop μ-loop
+returns-3 c = not-whole
+
+returns-4 : tie.Need-returns-4 Inv-loop μ-loop
+returns-4 c = not-whole
 
 write-text-requires : tie.Need-write-text-requires Inv-loop μ-loop
 write-text-requires c κs =
@@ -76,11 +91,11 @@ run-spec =
     (λ c κs. search needs)
     (λ c. search needs)
     (λ c. search needs)
-    (λ c. search needs)
+    returns
     write-last-requires
     (λ c. search needs)
     (λ c. search needs)
-    (λ c. search needs)
+    returns-2
     (λ c. search needs)
     (λ c κs. search needs)
     (λ c. search needs)
@@ -91,10 +106,10 @@ run-spec =
     (λ c. search needs)
     same-length-5
     same-length-6
-    (λ c. search needs)
+    returns-3
     sub-turns
     loop-less
     loop-again
     (λ c. search needs)
     (λ c. search needs)
-    (λ c. search needs))
+    returns-4)

@@ -1,4 +1,4 @@
-use Rattle.stream_io.proofs.Onward.{holds-last}
+use Rattle.stream_io.proofs.Onward.{holds-last, sends-last}
 use borrow.Author.Needs.{needs}
 use Rattle.stream_io.proofs.write_last.Statement.{statement}
 use Rattle.stream_io.proofs.write_last.Tie as tie
@@ -8,6 +8,11 @@ write-text-requires c κs =
     let f = c .before .before .before in
     holds-last _ _ _ _ _ _ (f .finish .ensures) (f .before .before .before .pre)
 
+returns : tie.Need-returns
+returns c =
+    let f = c .before .before .before .before in
+    sends-last _ _ _ _ _ _ _ (f .finish .ensures) (c .write-text .ensures)
+
 pub write-last-spec : {M : Type 1} → statement M
 write-last-spec =
     tie.close
@@ -15,4 +20,4 @@ write-last-spec =
     (λ c κs. search needs)
     write-text-requires
     (λ c. search needs)
-    (λ c. search needs))
+    returns)
