@@ -45,7 +45,8 @@ not-whole = record { all = λ n e. absurd (let z : _≡_ {A = ℕ} 0 1 = cc in o
 
 -- the text as it stands in `out`
 pub sends-part :
-    (out : List ℕ) (n written : ℕ) (t : Text) (s : Sent) → t ≡ Written n → n ≤ length out → Sends written (Written (length (take n out))) s → Sends written t s
+    (out : List ℕ) (n written : ℕ) (t : Text) (s : Sent) → t ≡ Written n → n ≤ length out →
+    Sends written (Written (length (take n out))) s → Sends written t s
 sends-part out n written t s e h sent = rw e (rw (length-take-le n out h) at sent)
 
 module _ (s : Stream) (written : ℕ) (r : Reached s written) where
@@ -115,17 +116,20 @@ module _ (reader : Reader) (machine : Machine) (piece memory out : List ℕ) (r 
     abbrev before : Stream
     before = streamOf reader machine memory
 
-    text-same : textOut (r .text) out′ ≡ writtenIf (acceptable reader (length piece) (length out)) (fed before piece .text) out
+    abbrev fits : Bool
+    fits = acceptable reader (length piece) (length out)
+
+    text-same : textOut (r .text) out′ ≡ writtenIf fits (fed before piece .text) out
     text-same = fed-text reader machine piece memory out r memory′ out′ same
 
     module _ (reached : Reached before written) where
       pub holds-fed : Holds written (r .text) out′
       holds-fed =
-          holds (acceptable reader (length piece) (length out)) (fed before piece .text) out text-same (next-text before written reached piece)
+          holds fits (fed before piece .text) out text-same (next-text before written reached piece)
 
       pub fed-onward : (s : Sent) (n : ℕ) → Sends written (r .text) s → s ≡ Upto n → Reached (streamOf (r .reader) (r .machine) memory′) n
       fed-onward s n sends e =
           let u = sends .upto n e in
-          let w : (acceptable reader (length piece) (length out) ≡ true) × Wrote (fed before piece .text) out (n - written) out′ = written-if _ text-same (u .1) in
+          let w : (fits ≡ true) × Wrote (fed before piece .text) out (n - written) out′ = written-if _ text-same (u .1) in
           onward before written reached piece (streamOf (r .reader) (r .machine) memory′) n
           (fed-stream reader machine piece memory out r memory′ out′ same (w .0)) (u .0) (w .1 .size)

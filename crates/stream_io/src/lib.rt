@@ -36,6 +36,7 @@ fn write_next(written: u64, text: &[u8]) -> Sent
     Sent::Upto(written + text.len() as u64)
 }
 
+// Writes what a call left in `out`, if there was room for it.
 fn write_text(written: u64, text: Text, out: &[u8]) -> Sent
     requires { ⌜ Holds written text (now out) ⌝ }
     ensures { λ r. ⌜ Sends written text r ⌝ }
@@ -47,7 +48,7 @@ fn write_text(written: u64, text: Text, out: &[u8]) -> Sent
     write_next(written, &out[..length])
 }
 
-// At the end of the stream.
+// Writes what the end of the stream prints.
 fn write_last(reader: Reader, machine: Machine, written: u64, out: &mut [u8]) -> Sent
     requires { ⌜ Next written (lastText (readingOf reader) (machine .registers)) ⌝ }
     ensures { λ r. ⌜ Sends written (Written (length (lastText (readingOf reader) (machine .registers)))) r ⌝ }
@@ -72,6 +73,7 @@ fn say_unread(fd: i32) {
     os::fail(b"stream");
 }
 
+// Piece after piece: `written` bytes are all that the stream has printed so far.
 // A proved loop has to end, and nothing says that the input does: so it counts its turns down,
 // from a number that no run uses up.
 fn run(fd: i32, memory: &mut [u8], out: &mut [u8]) -> Sent
@@ -107,7 +109,8 @@ fn run(fd: i32, memory: &mut [u8], out: &mut [u8]) -> Sent
     Sent::Stopped
 }
 
-// Runs the stream of a descriptor on a fresh machine with 4,096 zero bytes of memory.
+// Runs the stream of a descriptor on a fresh machine with 4,096 zero bytes of memory,
+// and answers how many bytes its output has, if all of it was written.
 pub fn run_descriptor(fd: i32) -> Sent
     ensures { λ r. ⌜ Whole r ⌝ }
 {

@@ -19,17 +19,17 @@ use Rattle.stream.specs.Stream.{Fed, fed, finished, freshStream, output}
 use Rattle.stream.specs.Feed.{pieceRoom, lastRoom, acceptable, feedResult, feedOf, streamOf, finishOf, textOut, writtenIf, writtenInto}
 use Rattle.stream.proofs.Accepting.{by-room, accepted}
 use Rattle.stream.proofs.Texts.{Wrote, wrote-within, wrote-more, written-if, refused-if, fed-text, fed-stream}
-use Rattle.whole_stream.specs.Whole.{runOf}
+use Rattle.whole_stream.specs.Whole.{wholeRoom, runOf}
 
 -- without room for the end there is none for the whole
 pub no-end : (bytes out : List ℕ) → length out < lastRoom → textOut NoRoom out ≡ runOf bytes out
 unfolding runOf
-no-end bytes out h = rw (lt-leb (pieceRoom (length bytes) + lastRoom) (length out) (omega arith))
+no-end bytes out h = rw (lt-leb (wholeRoom (length bytes)) (length out) (omega arith))
 
 -- what was fed into the first part of `out`
 pub record Given (bytes out : List ℕ) (r : declared.Fed) (memory part : List ℕ) : Type 0 where
   pub counted : length bytes < 2 ^ 64
-  pub sized : length out < 2 ^ 64
+  pub sized : length out < 2 ^ 63
   pub enough : lastRoom ≤ length out
   pub kept : length part ≡ length (take (length out - lastRoom) out)
   pub same : feedResult r memory part ≡ feedOf freshReader freshMachine bytes (replicate 4096 0) (take (length out - lastRoom) out)
@@ -60,7 +60,7 @@ module _ {bytes out memory part : List ℕ} {r : declared.Fed} (g : Given bytes 
       let none = refused-if _ (first .text) text-same e in
       let test = by-room freshReader (length bytes) (length (take room out)) (omega arith) (omega arith) ∙ none .0 in
       let short = leb-false (pieceRoom (length bytes)) (length (take room out)) test in
-      rw (none .1, take-append-drop, lt-leb (pieceRoom (length bytes) + lastRoom) (length out) (omega (arith, short, room-length)))
+      rw (none .1, take-append-drop, lt-leb (wholeRoom (length bytes)) (length out) (omega (arith, short, room-length)))
 
   module _ (n : ℕ) (told : r .text ≡ Written n) where
     wrote : (fits ≡ true) × Wrote (first .text) (take room out) n part
@@ -69,7 +69,7 @@ module _ {bytes out memory part : List ℕ} {r : declared.Fed} (g : Given bytes 
     within : n ≤ room
     within = omega (arith, wrote-within (wrote .1), g .kept, room-length)
 
-    roomy : pieceRoom (length bytes) + lastRoom ≤ length out
+    roomy : wholeRoom (length bytes) ≤ length out
     roomy = omega (arith, accepted freshReader (length bytes) (length (take room out)) (wrote .0) .roomy, room-length)
 
     all : Wrote (first .text) out n now
@@ -103,13 +103,14 @@ module _ {bytes out memory part : List ℕ} {r : declared.Fed} (g : Given bytes 
       wrote-end : (m : ℕ) → t ≡ Written m → Wrote (finished (first .stream)) (drop n now) m last
       wrote-end m e = written-if (leb lastRoom (length (drop n now))) ended e .1
 
-      pub sum-fits : (m : ℕ) → t ≡ Written m → length last ≡ length (take (length now - n) (drop n now)) → n + m < 2 ^ 64
-      sum-fits m e h =
-          omega (arith, wrote-within (wrote-end m e), h, ap (λ (l : List ℕ). length l) (part-to-end now n), length-drop n now, now-length, inside)
+      pub both-within : (m : ℕ) → t ≡ Written m → length last ≡ length (take (length now - n) (drop n now)) → (n ≤ length out) × (m ≤ length out)
+      both-within m e h =
+          let end = ap (λ (l : List ℕ). length l) (part-to-end now n) in
+          (omega (arith, within), omega (arith, wrote-within (wrote-end m e), h, end, length-drop n now, now-length))
 
       pub total : (m : ℕ) → t ≡ Written m → textOut (Written (n + m)) (putMid n (length now - n) now last) ≡ runOf bytes out
       unfolding runOf output
       total m e =
           let w = wrote-more all (wrote-end m e) in
           let none : drop (length now - n) (drop n now) ≡ [] = post-is n (length now) now inside ∙ drop-length now in
-          rw (none, append-nil, w .size, w .bytes, le-leb (pieceRoom (length bytes) + lastRoom) (length out) roomy)
+          rw (none, append-nil, w .size, w .bytes, le-leb (wholeRoom (length bytes)) (length out) roomy)

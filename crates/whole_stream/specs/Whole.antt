@@ -5,6 +5,9 @@ use lib.ListN.{length}
 use Rattle.stream.specs.Stream.{output}
 use Rattle.stream.specs.Feed.{pieceRoom, lastRoom, TextOut, writtenInto}
 
--- the output, where there is room for all that so many bytes may print
+-- room for all that so many bytes may print, and for the end
+abbrev pub wholeRoom : ℕ → ℕ
+wholeRoom bytes = pieceRoom bytes + lastRoom
+
 unfoldable pub runOf : List ℕ → List ℕ → TextOut
-runOf bytes out = writtenInto (pieceRoom (length bytes) + lastRoom) (output bytes) out
+runOf bytes out = writtenInto (wholeRoom (length bytes)) (output bytes) out

@@ -1,6 +1,6 @@
 use mathlib.Core.Path.{sym}
 use lib.Seq.{length-take-le}
-use Rattle.whole_stream.proofs.Whole.{no-end, Given, refused, inside, never, sum-fits, total}
+use Rattle.whole_stream.proofs.Whole.{no-end, Given, refused, inside, never, both-within, total}
 use borrow.Author.Needs.{needs}
 use native.Mathlib.Omega.{arith}
 use Rattle.whole_stream.proofs.run_stream.Statement.{statement}
@@ -51,7 +51,8 @@ add-t12 c =
     let l = c .before .before .before .before .before in
     let t = l .before .before .before .before .before in
     let g = given (t .before .before .before .before .before) in
-    record { fits = sum-fits g _ (t .text .given .1) _ _ (l .finish .ensures) _ (c .before .last .given .1) (l .finish .kept .1 .1 .0) }
+    let both = both-within g _ (t .text .given .1) _ _ (l .finish .ensures) _ (c .before .last .given .1) (l .finish .kept .1 .1 .0) in
+    omega (arith, both .0, both .1, g .sized)
 
 returns-4 : tie.Need-returns-4
 returns-4 c =
