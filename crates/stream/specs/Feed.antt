@@ -18,11 +18,12 @@ use Rattle.stream.specs.declared.feed.Applied.{Applied}
 use Rattle.stream.specs.Apply.{applied, printed}
 use Rattle.stream.specs.Stream.{Stream, stream, fed, lastText}
 
--- Room for all that some bytes may print: every record has at least 4 bytes, of which 10 may have come before, and prints at most 54.
+-- Room for all that some bytes may print: every record has at least 4 bytes and prints at most 54, and 10 bytes of the first may have come before.
 abbrev pub pieceRoom : ℕ → ℕ
 pieceRoom bytes = 14 * (bytes + 10)
 
--- A piece is accepted from a reader that holds an unfinished record and has counted less than 2 ^ 64 bytes with the piece.
+-- A piece is accepted from a reader that holds an unfinished record and has counted less than 2 ^ 64 bytes with the piece, and into
+-- enough room.
 unfoldable pub acceptable : Reader → ℕ → ℕ → Bool
 acceptable r bytes room =
     leb (r .length) 10 && ltb (r .offset + r .length + bytes) (2 ^ 64) && leb (pieceRoom bytes) room
