@@ -1,4 +1,7 @@
 // The calls that a line can make, by the place of their names in a list: `set-..` sets, a bare name reads.
+ghost use mathlib.Core.Path.{_≡_};
+ghost use Prim.Native.Nat.{_<_};
+ghost use Rattle.reading_lines.specs.Calls.{noCall, callOf, limitsOf, asLimits};
 use crate::words::place;
 
 pub const SET_VL: u64 = 0;
@@ -61,36 +64,58 @@ pub const BYTES: u64 = 28;
 
 pub const NONE: u64 = 29;
 
-pub(crate) fn call_of(word: &[u8]) -> u64 {
+pub(crate) fn call_of(word: &[u8]) -> u64
+    ensures { λ r. ⌜ r ≡ callOf (now (word .entry)) ⌝ }
+{
     place(
         b"set-vl set-vl-immediate set-mvl set-cfg set-entry set-predicate set-x set-pc set-state vl mvl cfg entry predicate x pc state run step write-mvl write-vl write-cfg write-source write-destination write-x0 write-predicate memory put bytes",
         word,
     )
 }
 
-// How many numbers a call takes.
-pub(crate) fn arguments(call: u64) -> u64 {
-    match call {
-        VL | MVL | CFG | PC | STATE => 0,
-        SET_ENTRY | SET_PREDICATE | SET_X | RUN | WRITE_PREDICATE | PUT => 2,
-        _ => 1,
-    }
-}
+// How many numbers a call takes, and the largest that the first and the second can be.
+pub struct Limits(pub u64, pub u64, pub u64);
 
-// The largest number that each of them can be.
-pub(crate) fn first_limit(call: u64) -> u64 {
-    match call {
-        SET_VL | SET_PC | WRITE_X0 => u64::MAX,
-        WRITE_PREDICATE => 15,
-        MEMORY => 128,
-        PUT | BYTES => 127,
-        _ => 4294967295,
-    }
-}
+const MAX64: u64 = 18446744073709551615;
 
-pub(crate) fn second_limit(call: u64) -> u64 {
-    match call {
-        SET_X | PUT => u64::MAX,
-        _ => 65535,
-    }
+const MAX32: u64 = 4294967295;
+
+// In the order of the names.
+const LIMITS: [Limits; 29] = [
+    Limits(1, MAX64, 0),
+    Limits(1, MAX32, 0),
+    Limits(1, MAX32, 0),
+    Limits(1, MAX32, 0),
+    Limits(2, MAX32, 65535),
+    Limits(2, MAX32, 65535),
+    Limits(2, MAX32, MAX64),
+    Limits(1, MAX64, 0),
+    Limits(1, MAX32, 0),
+    Limits(0, 0, 0),
+    Limits(0, 0, 0),
+    Limits(0, 0, 0),
+    Limits(1, MAX32, 0),
+    Limits(1, MAX32, 0),
+    Limits(1, MAX32, 0),
+    Limits(0, 0, 0),
+    Limits(0, 0, 0),
+    Limits(2, MAX32, 65535),
+    Limits(1, MAX32, 0),
+    Limits(1, MAX32, 0),
+    Limits(1, MAX32, 0),
+    Limits(1, MAX32, 0),
+    Limits(1, MAX32, 0),
+    Limits(1, MAX32, 0),
+    Limits(1, MAX64, 0),
+    Limits(2, 15, 65535),
+    Limits(1, 128, 0),
+    Limits(2, 127, MAX64),
+    Limits(1, 127, 0),
+];
+
+pub(crate) fn limits_of(call: u64) -> Limits
+    requires { ⌜ call < noCall ⌝ }
+    ensures { λ r. ⌜ r ≡ asLimits (limitsOf call) ⌝ }
+{
+    LIMITS[call as usize]
 }

@@ -1,10 +1,16 @@
-ghost use Prim.Native.Nat.{_≤_};
-ghost use lib.ListN.{length};
+ghost use mathlib.Core.Path.{_≡_};
+ghost use mathlib.Core.Bool.{cond};
+ghost use Prim.Native.Nat.{_≤_, _<_};
+ghost use lib.ListN.{length, drop};
+ghost use Rattle.reading_lines.specs.Words.{wordsOf, wordAt};
+ghost use Rattle.reading_lines.specs.Number.{upTo};
+ghost use Rattle.reading_lines.specs.Calls.{noCall};
+ghost use Rattle.reading_lines.specs.Line.{Read, withoutCall, pairOf, expectedOf, wholeOf, madeOf, callLine, lineOf};
 use crate::call;
-use crate::words::Number;
+use crate::number::Number;
+use crate::number::up_to;
 use crate::words::next_word;
-use crate::words::number_of;
-use crate::words::same;
+use check::same;
 
 pub enum Kind {
     // The name of a reading.
@@ -26,79 +32,83 @@ pub struct Line {
 }
 
 // A number read from a line, and where it ends.
-struct Part {
-    good: bool,
-    value: u64,
-    end: usize,
+pub struct Part {
+    pub number: Number,
+    pub end: usize,
 }
 
-struct Expected {
-    good: bool,
-    answer: u64,
-    value: u64,
+// What a call must answer, where that can be read.
+pub enum Expected {
+    Pair(u64, u64),
+    NoPair,
 }
 
-fn up_to(line: &[u8], from: usize, most: u64) -> Part
+// The next word as a number.
+fn next_number(line: &[u8], from: usize, most: u64) -> Part
     requires { ⌜ from ≤ length (now line) ⌝ }
-    ensures { λ r. ⌜ r .end ≤ length (now (line .entry)) ⌝ }
+    ensures { λ r. ⌜ Read (now (line .entry)) (upTo most (wordAt 0 (wordsOf (drop from (now (line .entry)))))) (drop 1 (wordsOf (drop from (now (line .entry))))) r ⌝ }
 {
     let word = next_word(line, from);
     let start = word.start;
     let end = word.end;
-    match number_of(&line[start..end]) {
-        Number::Value(value) => Part {
-            good: value <= most,
-            value,
-            end,
-        },
-        Number::NotOne => Part {
-            good: false,
-            value: 0,
-            end,
-        },
+    Part {
+        number: up_to(&line[start..end], most),
+        end,
     }
 }
 
+// An argument of a call, and 0 with no word where it has none.
 fn argument(line: &[u8], from: usize, present: bool, most: u64) -> Part
     requires { ⌜ from ≤ length (now line) ⌝ }
-    ensures { λ r. ⌜ r .end ≤ length (now (line .entry)) ⌝ }
+    ensures { λ r. ⌜ Read (now (line .entry)) (cond present (upTo most (wordAt 0 (wordsOf (drop from (now (line .entry)))))) (Number.Value 0)) (cond present (drop 1 (wordsOf (drop from (now (line .entry))))) (wordsOf (drop from (now (line .entry))))) r ⌝ }
 {
     if present {
-        return up_to(line, from, most);
+        return next_number(line, from, most);
     }
     Part {
-        good: true,
-        value: 0,
+        number: Number::Value(0),
         end: from,
     }
+}
+
+// An answer and a value, where both could be read.
+fn pair(answer: Number, value: Number) -> Expected
+    ensures { λ r. ⌜ r ≡ pairOf answer value ⌝ }
+{
+    let Number::Value(answer) = answer else {
+        return Expected::NoPair;
+    };
+    let Number::Value(value) = value else {
+        return Expected::NoPair;
+    };
+    Expected::Pair(answer, value)
 }
 
 // `= answer value`, or nothing, which is `= 0 0`; and then the line's end.
 fn expectation(line: &[u8], from: usize) -> Expected
     requires { ⌜ from ≤ length (now line) ⌝ }
+    ensures { λ r. ⌜ r ≡ expectedOf (wordsOf (drop from (now (line .entry)))) ⌝ }
 {
     let word = next_word(line, from);
     let start = word.start;
     let end = word.end;
     if start == end {
-        return Expected {
-            good: true,
-            answer: 0,
-            value: 0,
-        };
+        return Expected::Pair(0, 0);
     }
-    let equals = same(&line[start..end], b"=");
-    let answer = up_to(line, end, 8);
-    let value = up_to(line, answer.end, u64::MAX);
+    let answer = next_number(line, end, 8);
+    let value = next_number(line, answer.end, u64::MAX);
     let rest = next_word(line, value.end);
-    Expected {
-        good: equals & answer.good & value.good & (rest.start == rest.end),
-        answer: answer.value,
-        value: value.value,
+    if !(same(&line[start..end], b"=") & (rest.start == rest.end)) {
+        return Expected::NoPair;
     }
+    let answer = answer.number;
+    let value = value.number;
+    pair(answer, value)
 }
 
-fn without_call(kind: Kind) -> Line {
+fn without_call(kind: Kind) -> Line
+    ensures { λ r. ⌜ r ≡ withoutCall kind ⌝ }
+{
     Line {
         kind,
         call: call::NONE,
@@ -109,30 +119,61 @@ fn without_call(kind: Kind) -> Line {
     }
 }
 
-fn read_call(line: &[u8]) -> Line {
-    let name = next_word(line, 0);
-    let start = name.start;
-    let end = name.end;
-    let made = call::call_of(&line[start..end]);
-    let count = call::arguments(made);
-    let first = argument(line, end, 1 <= count, call::first_limit(made));
-    let second = argument(line, first.end, 2 <= count, call::second_limit(made));
-    let expected = expectation(line, second.end);
-    if !((made < call::NONE) & first.good & second.good & expected.good) {
+// The line of a call, where its parts could be read.
+fn whole(call: u64, first: Number, second: Number, expected: Expected) -> Line
+    ensures { λ r. ⌜ r ≡ wholeOf call first second expected ⌝ }
+{
+    let Number::Value(first) = first else {
         return without_call(Kind::Damaged);
-    }
+    };
+    let Number::Value(second) = second else {
+        return without_call(Kind::Damaged);
+    };
+    let Expected::Pair(answer, value) = expected else {
+        return without_call(Kind::Damaged);
+    };
     Line {
         kind: Kind::Call,
-        call: made,
-        first: first.value,
-        second: second.value,
-        answer: expected.answer,
-        value: expected.value,
+        call,
+        first,
+        second,
+        answer,
+        value,
     }
 }
 
+// A call whose name ends at a place.
+fn made(line: &[u8], call: u64, from: usize) -> Line
+    requires { ⌜ (call < noCall) × (from ≤ length (now line)) ⌝ }
+    ensures { λ r. ⌜ r ≡ madeOf call (wordsOf (drop from (now (line .entry)))) ⌝ }
+{
+    let limits = call::limits_of(call);
+    let first = argument(line, from, 0 < limits.0, limits.1);
+    let second = argument(line, first.end, 1 < limits.0, limits.2);
+    let expected = expectation(line, second.end);
+    let first = first.number;
+    let second = second.number;
+    whole(call, first, second, expected)
+}
+
+// A line that is no name and no note.
+fn read_call(line: &[u8]) -> Line
+    ensures { λ r. ⌜ r ≡ callLine (wordsOf (now (line .entry))) ⌝ }
+{
+    let name = next_word(line, 0);
+    let start = name.start;
+    let end = name.end;
+    let call = call::call_of(&line[start..end]);
+    if call::NONE <= call {
+        return without_call(Kind::Damaged);
+    }
+    made(line, call, end)
+}
+
 // `#` begins the name of a reading, and `-` a note.
-pub fn read_line(line: &[u8]) -> Line {
+pub fn read_line(line: &[u8]) -> Line
+    ensures { λ r. ⌜ r ≡ lineOf (now (line .entry)) ⌝ }
+{
     if line.len() == 0 {
         return without_call(Kind::Note);
     }

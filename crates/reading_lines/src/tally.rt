@@ -1,3 +1,5 @@
+ghost use mathlib.Core.Path.{_≡_};
+ghost use Rattle.reading_lines.specs.Tally.{outcomeOf, tally, oneMore, withOutcome, withFile};
 use crate::line::Kind;
 use crate::line::Line;
 
@@ -11,7 +13,7 @@ pub struct Tally {
 }
 
 // What a line came to.
-enum Outcome {
+pub enum Outcome {
     Name,
     Note,
     Agrees,
@@ -20,11 +22,16 @@ enum Outcome {
 }
 
 // A count stays at the largest number, which no file reaches.
-fn one_more(n: u64) -> u64 {
+fn one_more(n: u64) -> u64
+    ensures { λ r. ⌜ r ≡ oneMore n ⌝ }
+{
     if n < u64::MAX { n + 1 } else { n }
 }
 
-fn outcome_of(line: Line, answer: u64, value: u64) -> Outcome {
+// What a line comes to with what its call answered.
+pub fn outcome_of(line: Line, answer: u64, value: u64) -> Outcome
+    ensures { λ r. ⌜ r ≡ outcomeOf line answer value ⌝ }
+{
     let kind = line.kind;
     match kind {
         Kind::Name => Outcome::Name,
@@ -39,34 +46,10 @@ fn outcome_of(line: Line, answer: u64, value: u64) -> Outcome {
     }
 }
 
-fn print_line(number: u64, text: &[u8], what: &[u8]) {
-    io::write_all(1, b"\n  line ");
-    io::print_decimal(1, number);
-    io::write_all(1, b": ");
-    io::write_all(1, text);
-    io::write_all(1, what);
-}
-
-fn print_pair(answer: u64, value: u64) {
-    io::print_decimal(1, answer);
-    io::write_all(1, b" 0x");
-    io::print_hex(1, value, 1);
-}
-
-fn print_difference(number: u64, text: &[u8], line: Line, answer: u64, value: u64) {
-    print_line(number, text, b": expected ");
-    print_pair(line.answer, line.value);
-    io::write_all(1, b", came ");
-    print_pair(answer, value);
-}
-
-fn print_count(count: u64, what: &[u8]) {
-    io::print_decimal(1, count);
-    io::write_all(1, what);
-}
-
 impl Tally {
-    pub fn new() -> Tally {
+    pub fn new() -> Tally
+        ensures { λ r. ⌜ r ≡ tally 0 0 0 0 0 ⌝ }
+    {
         Tally {
             readings: 0,
             agree: 0,
@@ -76,7 +59,10 @@ impl Tally {
         }
     }
 
-    fn counted(mut self, outcome: Outcome) -> Tally {
+    pub fn with_outcome(mut self, outcome: Outcome) -> Tally
+        ensures { λ r. ⌜ r ≡ withOutcome outcome self ⌝ }
+    {
+        self.line = one_more(self.line);
         match outcome {
             Outcome::Name => self.readings = one_more(self.readings),
             Outcome::Note => {}
@@ -84,54 +70,18 @@ impl Tally {
             Outcome::Differs => self.differ = one_more(self.differ),
             Outcome::Damaged => self.damaged = one_more(self.damaged),
         }
-        self.line = one_more(self.line);
-        self
-    }
-
-    // A line, and what its call answered.
-    pub fn with_line(self, text: &[u8], line: Line, answer: u64, value: u64) -> Tally {
-        let outcome = outcome_of(line, answer, value);
-        let next = self.counted(outcome);
-        match outcome {
-            Outcome::Name => {
-                io::write_all(1, text);
-            }
-            Outcome::Differs => print_difference(next.line, text, line, answer, value),
-            Outcome::Damaged => print_line(next.line, text, b": damaged"),
-            _ => {}
-        }
-        next
-    }
-
-    // Ends a reading that began at a tally: its name's line is still open.
-    pub fn ended(self, start: Tally) -> Tally {
-        let clean = (self.differ == start.differ) & (self.damaged == start.damaged);
-        if (self.readings != start.readings) & clean {
-            io::write_all(1, b": ok");
-        }
-        if (self.readings != start.readings) | !clean {
-            io::write_all(1, b"\n");
-        }
         self
     }
 
     // A file's lines come next. One that could not be read whole counts as a damaged line.
-    pub fn with_file(mut self, path: &[u8], whole: bool) -> Tally {
+    pub fn with_file(mut self, whole: bool) -> Tally
+        ensures { λ r. ⌜ r ≡ withFile whole self ⌝ }
+    {
         self.line = 0;
-        io::write_all(1, path);
         if whole {
-            io::write_all(1, b"\n");
             return self;
         }
-        io::write_all(1, b": not read whole\n");
         self.damaged = one_more(self.damaged);
         self
-    }
-
-    pub fn print(self) {
-        print_count(self.readings, b" readings, ");
-        print_count(self.agree, b" lines agree, ");
-        print_count(self.differ, b" differ, ");
-        print_count(self.damaged, b" damaged\n");
     }
 }

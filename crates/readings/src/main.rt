@@ -11,19 +11,24 @@ mod bytes;
 // A file's readings and their lines.
 mod text;
 
+// What is printed of them.
+mod print;
+
 // A file that fills the buffer may go on after it, and an empty one was not read.
 fn run_file(index: usize, tally: Tally) -> Tally {
     let mut path = io::buffer();
     let length = os::arg(index, &mut path);
     let fd = os::open_read(&path[..length]);
     if fd < 0 {
-        return tally.with_file(&path[..length], false);
+        print::print_file(&path[..length], false);
+        return tally.with_file(false);
     }
     let mut buffer = io::large_buffer();
     let n = io::read_full(fd, &mut buffer);
     libc::close(fd);
     let whole = (0 < n) & (n < 65536);
-    text::run_text(&buffer[..n], tally.with_file(&path[..length], whole))
+    print::print_file(&path[..length], whole);
+    text::run_text(&buffer[..n], tally.with_file(whole))
 }
 
 fn main() {
@@ -34,5 +39,5 @@ fn main() {
         tally = run_file(i, tally);
         i += 1;
     }
-    tally.print();
+    print::print_totals(tally);
 }

@@ -4,11 +4,15 @@ ghost use lib.ListN.{length};
 use crate::bench;
 use crate::bytes::length_after;
 use crate::bytes::memory_line;
+use crate::print::print_end;
+use crate::print::print_outcome;
 use answers::Answer;
 use machine::Machine;
 use machine::Reply;
+use reading_lines::line::Line;
 use reading_lines::line::read_line;
 use reading_lines::tally::Tally;
+use reading_lines::tally::outcome_of;
 
 struct Bench {
     machine: Machine,
@@ -46,7 +50,17 @@ fn reading_end(text: &[u8], from: usize) -> usize
     text.len()
 }
 
-// A line's call made, and compared with what it must answer.
+// What a line's call answered, compared with what it must answer.
+fn compared(before: Tally, text: &[u8], line: Line, answer: Answer) -> Tally {
+    let number = answer.number() as u64;
+    let value = answer.value();
+    let outcome = outcome_of(line, number, value);
+    let tally = before.with_outcome(outcome);
+    print_outcome(outcome, tally.line, text, line, number, value);
+    tally
+}
+
+// A line's call made, and its answer compared.
 fn with_line(bench: Bench, text: &[u8], memory: &mut [u8]) -> Bench {
     let line = read_line(text);
     let call = line.call;
@@ -66,9 +80,7 @@ fn with_line(bench: Bench, text: &[u8], memory: &mut [u8]) -> Bench {
     Bench {
         machine,
         length,
-        tally: bench
-            .tally
-            .with_line(text, line, answer.number() as u64, answer.value()),
+        tally: compared(bench.tally, text, line, answer),
     }
 }
 
@@ -87,7 +99,8 @@ fn run_reading(text: &[u8], tally: Tally) -> Tally {
         bench = with_line(bench, &text[at..end], memory);
         at = end + 1;
     }
-    bench.tally.ended(tally)
+    print_end(tally, bench.tally);
+    bench.tally
 }
 
 pub(crate) fn run_text(text: &[u8], start: Tally) -> Tally {

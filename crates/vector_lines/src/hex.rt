@@ -10,7 +10,7 @@ pub enum Number {
 }
 
 // The value of a hex digit, and 16 for any other byte.
-fn digit(byte: u8) -> u64
+pub fn digit(byte: u8) -> u64
     ensures { λ r. ⌜ r ≡ digitOf byte ⌝ }
 {
     match byte {

@@ -1,0 +1,4 @@
+pub mod DigitLaws
+pub mod LineLaws
+pub mod PlaceLaws
+pub mod WordLaws

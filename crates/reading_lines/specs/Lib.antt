@@ -1,0 +1,5 @@
+pub mod Calls
+pub mod Line
+pub mod Number
+pub mod Tally
+pub mod Words
