@@ -45,15 +45,16 @@ pub(crate) fn print_outcome(
 
 // The end of a reading that began at a tally: its name's line is still open.
 pub(crate) fn print_end(start: Tally, end: Tally) {
-    let clean = (end.differ == start.differ) & (end.damaged == start.damaged);
-    if (end.readings != start.readings) & clean {
-        io::write_all(1, b": ok");
-    }
-    if (end.readings != start.readings) | !clean {
+    if (end.differ != start.differ) | (end.damaged != start.damaged) {
         io::write_all(1, b"\n");
+        return;
+    }
+    if end.readings != start.readings {
+        io::write_all(1, b": ok\n");
     }
 }
 
+// A file's lines come next.
 pub(crate) fn print_file(path: &[u8], whole: bool) {
     io::write_all(1, path);
     if whole {
