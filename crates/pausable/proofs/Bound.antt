@@ -4,14 +4,14 @@ use mathlib.Core.Path.{_≡_, refl}
 use native.Mathlib.Omega.{arith}
 use Rattle.pausable.specs.Outcome.{Pausing, Outcome, Ended}
 use Rattle.pausable.specs.Call.{Prepared, refused, ready, begun, called, NoRefusalPauses}
-use Rattle.pausable.specs.Bound.{Bounded, BoundLaw}
+use Rattle.pausable.specs.Bound.{Bounded, Enough, BoundLaw}
 use Rattle.pausable.proofs.Walk.{walk-induction}
 
 pub walk-bound :
     {A S : Type 0} {answers : Pausing A} {unit : S → Outcome A S} {Keep : S → Type 0} {measure : S → ℕ} →
     Bounded answers unit Keep measure → BoundLaw answers unit Keep measure
 walk-bound {answers} {unit} {Keep} {measure} b =
-    walk-induction answers unit (λ n s o. Keep s → measure s ≤ n → Ended answers o)
+    walk-induction answers unit (λ n s o. Keep s → Enough answers unit Keep measure n s → Ended answers o)
     (λ s k h. absurd (omega (arith, b .positive s k)))
     (λ n s e k h. e)
     (λ n s o e rest k h. rest (b .kept s k e) (omega (arith, b .falls s k e)))

@@ -10,6 +10,10 @@ module _ {A S : Type 0} (answers : Pausing A) (unit : S → Outcome A S) (Keep :
     pub kept : PauseKeeps answers Keep unit
     pub falls : (s : S) → Keep s → Paused answers (unit s) → measure (unit s .state) < measure s
 
-  -- a walk that may do as many units as the measure says does not pause
+  -- as many units as the measure says
+  abbrev pub Enough : ℕ → S → Type 0
+  Enough n s = measure s ≤ n
+
+  -- a walk that may do so many does not pause
   abbrev pub BoundLaw : Type 0
-  BoundLaw = (n : ℕ) (s : S) → Keep s → measure s ≤ n → Ended answers (walk answers unit n s)
+  BoundLaw = (n : ℕ) (s : S) → Keep s → Enough n s → Ended answers (walk answers unit n s)
