@@ -155,8 +155,8 @@ static inline void simplev_machine_fresh(struct simplev_machine *m)
 }
 
 /* Runs an instruction word for at most `allowance` units, on a memory of `size` bytes at addresses from 0, or none where
- * `memory` is NULL. A unit of an operation is one position, also one that its mask leaves out. A unit of a move, a load or a store skips to the next
- * pair of positions that are on, and moves one element.
+ * `memory` is NULL. A unit of an operation is one position, also one that its mask leaves out. A unit of a move, a load
+ * or a store skips to the next pair of positions that are on, and moves one element.
  *
  *  DONE    all elements done: the program counter has gone up by 4 (2 for C.MV), and both offsets are 0.
  *  PAUSED  the elements so far are done, the program counter is where it was, and the offsets stand at the next element.

@@ -1,7 +1,7 @@
 -- The parts of a line, one after another.
 use Prim.Native.Nat.{ℕ, zero, suc, _-_, _≤_}
 use mathlib.Core.Path.{_≡_, refl, sym, ap, _∙_}
-use mathlib.Core.Bool.{Bool, true, false, cond, _&&_}
+use mathlib.Core.Bool.{Bool, true, false, cond, _&&_, and-eq-true-iff}
 use mathlib.Core.List.{List, [], _∷_, map}
 use lib.Dec.{leb, ltb, eqb}
 use lib.ListN.{length, getD, drop}
@@ -19,7 +19,7 @@ use Rattle.reading_lines.specs.Number.{upTo}
 use Rattle.reading_lines.specs.Calls.{Form, forms, largest, limitsOf, asLimits}
 use Rattle.reading_lines.specs.Line.{argumentOf, pairOf, expectedOf, wholeOf, madeOf, Read}
 use Rattle.reading_lines.proofs.WordLaws.{word-length}
-use Rattle.reading_lines.proofs.PlaceLaws.{both, tested}
+use Rattle.reading_lines.proofs.PlaceLaws.{tested}
 
 -- no row has more than two
 narrow : List (List ℕ) → Bool
@@ -29,8 +29,8 @@ narrow (l ∷ rows) = leb (length l) 2 && narrow rows
 at-most-two : (rows : List (List ℕ)) (i : ℕ) → narrow rows ≡ true → length (getD rows i []) ≤ 2
 unfolding narrow
 at-most-two [] i e = omega arith
-at-most-two (l ∷ rows) zero e = leb-true (length l) 2 (both (leb (length l) 2) (narrow rows) e .0)
-at-most-two (l ∷ rows) (suc i) e = at-most-two rows i (both (leb (length l) 2) (narrow rows) e .1)
+at-most-two (l ∷ rows) zero e = leb-true (length l) 2 (and-eq-true-iff (leb (length l) 2) (narrow rows) .0 e .0)
+at-most-two (l ∷ rows) (suc i) e = at-most-two rows i (and-eq-true-iff (leb (length l) 2) (narrow rows) .0 e .1)
 
 few : (call : ℕ) → length (limitsOf call) ≤ 2
 unfolding limitsOf forms narrow

@@ -1,7 +1,7 @@
 -- A word among others.
 use Prim.Native.Nat.{ℕ, suc}
 use mathlib.Core.Path.{_≡_, refl, sym}
-use mathlib.Core.Bool.{Bool, true, false, cond, _&&_}
+use mathlib.Core.Bool.{Bool, true, false, cond, and-eq-true-iff}
 use mathlib.Core.List.{List, [], _∷_}
 use lib.Dec.{eqb}
 use lib.ListN.{length, drop}
@@ -16,17 +16,13 @@ unfolding same
 same-itself [] = refl
 same-itself (a ∷ x) = rw (eq-eqb a a refl) (same-itself x)
 
-pub both : (s t : Bool) → (s && t) ≡ true → (s ≡ true) × (t ≡ true)
-both true t e = (refl, e)
-both false t e = (e, absurd (let z : _≡_ {A = ℕ} 0 1 = cc in omega arith))
-
 same-true : (x y : List ℕ) → same x y ≡ true → x ≡ y
 unfolding same
 same-true [] [] e = refl
 same-true [] (b ∷ y) e = absurd (let z : _≡_ {A = ℕ} 0 1 = cc in omega arith)
 same-true (a ∷ x) [] e = absurd (let z : _≡_ {A = ℕ} 0 1 = cc in omega arith)
 same-true (a ∷ x) (b ∷ y) e =
-    let p = both (eqb a b) (same x y) e in
+    let p = and-eq-true-iff (eqb a b) (same x y) .0 e in
     let h : a ≡ b = eqb-true a b (p .0) in
     rw (h, same-true x y (p .1))
 

@@ -16,8 +16,8 @@ telling : (m : Machine) (placed : Bool) (value : ℕ) → ReadingSound m (guarde
 unfolding accepts
 telling m placed value =
     by-guard (ReadingSound m) placed true
-    (record { answer = inr (inl refl); machine = refl; refused = λ r. record { machine = refl; value = refl } })
-    (λ p. record { answer = inr (inr (inl refl)); machine = refl; refused = λ r. record { machine = refl; value = refl } })
+    (record { answer = inr (inl refl); machine = refl; refused = λ r. refl })
+    (λ p. record { answer = inr (inr (inl refl)); machine = refl; refused = λ r. refl })
     (λ g. absurd (true≢false g))
     (λ h g. record { answer = inl refl; machine = refl; refused = λ r. absurd (r refl) })
 

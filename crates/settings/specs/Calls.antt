@@ -35,7 +35,7 @@ pub record SettingSound (m : Machine) (s : Setting) (reply : Reply) : Type 0 whe
 pub record ReadingSound (m : Machine) (reply : Reply) : Type 0 where
   pub answer : Among (numberOf (reply .answer)) readingAnswers
   pub machine : reply .machine ≡ m
-  pub refused : (Accepted reply → ⊥) → Refused m reply
+  pub refused : (Accepted reply → ⊥) → valueOf (reply .answer) ≡ 0
 
 pub record CallsSound : Type 0 where
   -- a fresh machine is in shape
