@@ -52,7 +52,7 @@ LINES = [
     ("run sd x7,-8(x6) allow 0", "05 233c73fe 0000"),
     ("run srai x5,x6,63", "05 9352f343 ffff"),
     ("run addi x5,x6,-1", "05 9302f3ff ffff"),
-    ("raw 07 ff", "07 ff"),
+    ("raw 7f ff", "7f ff"),
 ]
 
 # a bad line, and a part of what is said of it

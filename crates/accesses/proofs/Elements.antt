@@ -1,6 +1,6 @@
 -- What a load and a store move at a pair, by what memory answers.
 use Prim.Native.Nat.{ℕ, _*_, _<_}
-use mathlib.Core.Path.{_≡_, sym, _∙_}
+use mathlib.Core.Path.{_≡_}
 use native.Mathlib.Omega.{arith}
 use lib.ListN.{getD}
 use Rattle.memory.specs.declared.load.Loaded.the-variants as load
@@ -47,7 +47,8 @@ module _ (p : StorePlan) (c : Context) (i j address : ℕ)
         storeAnswer (c .memory) address (bytesOf (p .width)) ≡ store.Done →
         storeElement p c i j
         ≡ moved (c .registers)
-        (stored (c .memory) address (bytesOf (p .width)) (getD (c .registers) (registerAt (p .sides .source .place) i) 0))
+        (stored (c .memory) address (bytesOf (p .width))
+        (getD (c .registers) (registerAt (p .sides .source .place) i) 0))
     unfolding storeElement
     store-done e = rw (← at, e)
 

@@ -18,8 +18,8 @@ use Rattle.accesses.specs.declared.loading.LoadPlan.{LoadPlan}
 use Rattle.walk.specs.Context.{Context}
 use Rattle.transfers.specs.Transfer.{Transferred, moved, outside, transferUnit}
 
--- The address of position i is (register + immediate + i × bytes of the access) when the address register is scalar, and
--- (register at i + immediate) when it's a vector, both modulo 2^64.
+-- The address of position i is (register + immediate + i × bytes of the access) when the address register is scalar,
+-- and (register at i + immediate) when it's a vector, both modulo 2^64.
 unfoldable pub addressAt : Place → ℕ → Width → List ℕ → ℕ → ℕ
 addressAt p offset width registers i =
     cond (p .vector)

@@ -74,7 +74,10 @@ impl LoadPlan {
     // One element.
     pub fn unit(self, position: Position, registers: &mut [u64; 128], memory: &[u8]) -> Ran
         requires { ⌜ SidesReady (self .sides) × Within (self .sides .vl) position ⌝ }
-        ensures { λ r. ⌜ left r (now (registers .exit)) (now (memory .entry)) ≡ loadUnit self (context (now (registers .entry)) (now (memory .entry)) position) ⌝ }
+        ensures { λ r. ⌜
+            (let start = context (now (registers .entry)) (now (memory .entry)) position in
+            left r (now (registers .exit)) (now (memory .entry)) ≡ loadUnit self start)
+            ⌝ }
     {
         let sides = self.sides;
         match sides.find(position) {
@@ -103,7 +106,10 @@ impl LoadPlan {
         memory: &[u8],
     ) -> Ran
         requires { ⌜ SidesReady (self .sides) × Within (self .sides .vl) position ⌝ }
-        ensures { λ r. ⌜ left r (now (registers .exit)) (now (memory .entry)) ≡ walk pausing (loadUnit self) allowance (context (now (registers .entry)) (now (memory .entry)) position) ⌝ }
+        ensures { λ r. ⌜
+            (let start = context (now (registers .entry)) (now (memory .entry)) position in
+            left r (now (registers .exit)) (now (memory .entry)) ≡ walk pausing (loadUnit self) allowance start)
+            ⌝ }
     {
         let mut now = position;
         let mut left = allowance;

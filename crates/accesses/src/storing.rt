@@ -39,7 +39,10 @@ impl StorePlan {
     // One element.
     pub fn unit(self, position: Position, registers: &[u64; 128], memory: &mut [u8]) -> Ran
         requires { ⌜ SidesReady (self .sides) × Within (self .sides .vl) position ⌝ }
-        ensures { λ r. ⌜ left r (now (registers .entry)) (now (memory .exit)) ≡ storeUnit self (context (now (registers .entry)) (now (memory .entry)) position) ⌝ }
+        ensures { λ r. ⌜
+            (let start = context (now (registers .entry)) (now (memory .entry)) position in
+            left r (now (registers .entry)) (now (memory .exit)) ≡ storeUnit self start)
+            ⌝ }
     {
         let sides = self.sides;
         match sides.find(position) {
@@ -65,7 +68,10 @@ impl StorePlan {
         memory: &mut [u8],
     ) -> Ran
         requires { ⌜ SidesReady (self .sides) × Within (self .sides .vl) position ⌝ }
-        ensures { λ r. ⌜ left r (now (registers .entry)) (now (memory .exit)) ≡ walk pausing (storeUnit self) allowance (context (now (registers .entry)) (now (memory .entry)) position) ⌝ }
+        ensures { λ r. ⌜
+            (let start = context (now (registers .entry)) (now (memory .entry)) position in
+            left r (now (registers .entry)) (now (memory .exit)) ≡ walk pausing (storeUnit self) allowance start)
+            ⌝ }
     {
         let mut now = position;
         let mut left = allowance;

@@ -1,7 +1,7 @@
 // What a call says.
 ghost use mathlib.Core.Path.{_≡_};
 ghost use Rattle.answers.specs.Answer.{numberOf, valueOf, accepts, pauses};
-ghost use Rattle.answers.specs.Verdict.{verdict};
+ghost use Rattle.answers.specs.Verdict.{valid, verdict};
 
 pub enum Answer {
     Done(u64),
@@ -62,18 +62,25 @@ impl Answer {
     }
 }
 
-// What a setting or reading call says, by its three tests.
-pub fn verdict_of(shaped: bool, placed: bool, good: bool) -> Answer
-    ensures { λ r. ⌜ r ≡ verdict shaped placed good ⌝ }
+// A call's own answer, by whether its value can be taken.
+pub fn valid(taken: bool) -> Answer
+    ensures { λ r. ⌜ r ≡ valid taken ⌝ }
+{
+    if !taken {
+        return Answer::BadValue;
+    }
+    Answer::Done(0)
+}
+
+// What a setting or reading call says, by its two tests and its own answer.
+pub fn verdict(shaped: bool, exists: bool, own: Answer) -> Answer
+    ensures { λ r. ⌜ r ≡ verdict shaped exists own ⌝ }
 {
     if !shaped {
         return Answer::OutOfShape;
     }
-    if !placed {
+    if !exists {
         return Answer::NoSuchPlace;
     }
-    if !good {
-        return Answer::BadValue;
-    }
-    Answer::Done(0)
+    own
 }

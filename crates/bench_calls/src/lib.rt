@@ -11,7 +11,9 @@ pub extern "C" fn bench_run(
     allowance: u16,
     memory: &mut [u8],
 ) -> Machine
-    ensures { λ r. ⌜ system r (now (memory .exit)) ≡ run word allowance (system machine (now (memory .entry))) .state ⌝ }
+    ensures { λ r. ⌜
+        system r (now (memory .exit)) ≡ run word allowance (system machine (now (memory .entry))) .state
+        ⌝ }
 {
     machine.run(word, allowance, memory).machine
 }

@@ -6,7 +6,7 @@ use Rattle.registers.specs.Written.{written}
 use Rattle.compute.specs.Compute.{computed}
 use Rattle.tables.specs.Enabled.{enabledRange}
 use Rattle.tables.specs.Entry.{clearBelow}
-use Rattle.search.specs.Search.{answers, candidate, highest, held}
+use Rattle.search.specs.Search.{entryAnswers, candidate, highest, heldEntry}
 use Rattle.state_word.specs.State.{stateInShape, fields, wordOf, goodWord}
 use Rattle.memory.specs.Access.{inside, located}
 use Rattle.memory.specs.Transfer.{loaded}
@@ -19,16 +19,16 @@ use Rattle.pairs.specs.Side.{start, next, past}
 use Rattle.pairs.specs.Pair.{firstOn, skipped, pairFrom}
 use Rattle.pausable.specs.Walk.{walk}
 use Rattle.pausable.specs.Call.{begun}
-use Rattle.walk.specs.Operation.{elementOf, goOn, afterOn, positionDone, operationUnit}
+use Rattle.walk.specs.Operation.{elementOf, registersAfter, goOn, afterOn, positionAfter, operationUnit}
 use Rattle.transfers.specs.Transfer.{pairOf, afterPair, settled, atPair, transferUnit}
 use Rattle.transfers.specs.Moving.{moveElement, moveUnit}
 use Rattle.accesses.specs.Loading.{addressAt, fetched, loadElement, loadUnit}
-use Rattle.plans.specs.Operands.{every, narrow, fitting}
+use Rattle.plans.specs.Operands.{defaultWidth, fitting, checkedOperands}
+use Rattle.bits.specs.Lists.{all}
 use Rattle.plans.specs.Plan.{operationPlan, movePlan, loadPlan}
 use Rattle.handler.specs.Prepare.{served, prepared}
 use Rattle.machine.specs.Shape.{inShape, roomInShape, tablesInShape}
 use Rattle.machine.specs.Setting.{setStateWord, setRegisterEntry, setRegister}
-use Rattle.machine.specs.Reading.{told}
 use Rattle.machine.specs.Run.{prepare, unit, run}
 use Rattle.bench_readings.proofs.Memories.{of-length, extended}
 use Rattle.bench_readings.specs.Readings.{Readings, enabledBelow}
@@ -51,7 +51,14 @@ use Rattle.bench_readings.specs.Machines.{
 }
 
 pub readings : Readings
-unfolding accepts pauses verdict written computed enabledRange clearBelow answers candidate highest held stateInShape fields wordOf goodWord inside located loaded funct3Rows funct6Rows funct7Rows firstForm lookUp named decoded decodedAs compressedMove registerAt fits onBits maskBy isOn start next past firstOn skipped pairFrom walk begun elementOf goOn afterOn positionDone operationUnit pairOf afterPair settled atPair transferUnit moveElement moveUnit addressAt fetched loadElement loadUnit every narrow fitting operationPlan movePlan loadPlan served prepared inShape roomInShape tablesInShape setStateWord setRegisterEntry setRegister told prepare unit run putFrom base settings holding tagged masked withLengths positioned nines scalarDestination sourceMask destinationMask loading enabledBelow full sums
+unfolding accepts pauses verdict written computed enabledRange clearBelow entryAnswers candidate highest heldEntry
+    stateInShape fields wordOf goodWord inside located loaded funct3Rows funct6Rows funct7Rows firstForm lookUp named
+    decoded decodedAs compressedMove registerAt fits onBits maskBy isOn start next past firstOn skipped pairFrom walk
+    begun elementOf registersAfter goOn afterOn positionAfter operationUnit pairOf afterPair settled atPair
+    transferUnit moveElement moveUnit addressAt fetched loadElement loadUnit all defaultWidth fitting checkedOperands
+    operationPlan movePlan loadPlan served prepared inShape roomInShape tablesInShape setStateWord setRegisterEntry
+    setRegister prepare unit run putFrom base settings holding tagged masked withLengths positioned nines
+    scalarDestination sourceMask destinationMask loading enabledBelow full sums
 readings = record {
   base-set = refl;
   p1 = λ memory. refl;

@@ -5,12 +5,12 @@ use mathlib.Core.Path.{_≡_, refl, ap}
 use native.Mathlib.Omega.{arith}
 use lib.ListN.{getD}
 use Rattle.answers.specs.declared.Answer.{Answer}
-use Rattle.answers.specs.Answer.{pauses}
+use Rattle.answers.specs.Answer.{accepts, pauses}
 use Rattle.registers.specs.Written.{written}
 use Rattle.compute.specs.Compute.{computed}
 use Rattle.tables.specs.Enabled.{enabledRange}
 use Rattle.tables.specs.Entry.{clearBelow}
-use Rattle.search.specs.Search.{answers, candidate, highest, held}
+use Rattle.search.specs.Search.{entryAnswers, candidate, highest, heldEntry}
 use Rattle.state_word.specs.State.{stateInShape}
 use Rattle.encoding.specs.Listing.{funct3Rows, funct6Rows, funct7Rows, firstForm, lookUp}
 use Rattle.decode.specs.Naming.{named}
@@ -20,8 +20,9 @@ use Rattle.operands.specs.Mask.{onBits, maskBy, isOn}
 use Rattle.pausable.specs.Outcome.{Outcome}
 use Rattle.pausable.specs.Walk.{walk}
 use Rattle.pausable.specs.Call.{begun, listed}
-use Rattle.walk.specs.Operation.{elementOf, goOn, afterOn, positionDone, operationUnit}
-use Rattle.plans.specs.Operands.{every, narrow, fitting}
+use Rattle.walk.specs.Operation.{elementOf, registersAfter, goOn, afterOn, positionAfter, operationUnit}
+use Rattle.plans.specs.Operands.{defaultWidth, fitting, checkedOperands}
+use Rattle.bits.specs.Lists.{all}
 use Rattle.plans.specs.Plan.{operationPlan}
 use Rattle.handler.specs.Prepare.{served, prepared}
 use Rattle.machine.specs.Shape.{inShape, roomInShape, tablesInShape}
@@ -33,11 +34,15 @@ register42 : Outcome Answer System → ℕ
 register42 o = getD (o .state .machine .registers) 42 0
 
 pub why-the-premise : WhyThePremise
-unfolding register42 pauses written computed enabledRange clearBelow answers candidate highest held stateInShape funct3Rows funct6Rows funct7Rows firstForm lookUp named decoded decodedAs registerAt fits onBits maskBy isOn walk begun listed elementOf goOn afterOn positionDone operationUnit every narrow fitting operationPlan served prepared inShape roomInShape tablesInShape prepare unit run putFrom base holding masked positioned maskWritten
+unfolding register42 accepts pauses written computed enabledRange clearBelow entryAnswers candidate highest heldEntry
+    stateInShape funct3Rows funct6Rows funct7Rows firstForm lookUp named decoded decodedAs registerAt fits onBits
+    maskBy isOn walk begun listed elementOf registersAfter goOn afterOn positionAfter operationUnit all defaultWidth
+    fitting checkedOperands operationPlan served prepared inShape roomInShape tablesInShape prepare unit run putFrom
+    base holding masked positioned maskWritten
 why-the-premise = record {
   uncut = λ memory. refl;
   first = λ memory. refl;
   cut = λ memory. refl;
   differ = λ memory e. let z : _≡_ {A = ℕ} 0 4 = ap register42 e in omega arith;
-  not-apart = λ apart. apart 41 (inl (λ e. omega (arith, e), refl)) (inl (omega arith, omega arith));
+  not-apart = λ apart. apart 41 (inl (λ e. omega (arith, e), refl)) (inl (record { position = 1; below = omega arith; register = refl }));
 }

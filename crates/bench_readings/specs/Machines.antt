@@ -6,7 +6,7 @@ use Rattle.machine.specs.declared.Machine.{Machine}
 use Rattle.machine.specs.declared.Reply.{Reply}
 use Rattle.machine.specs.Calls.{done}
 use Rattle.machine.specs.Shape.{freshMachine}
-use Rattle.machine.specs.Update.{withRoom, withRegisters, withState, withRegisterTable, withPredicateTable}
+use Rattle.machine.specs.Update.{withRegisters, withPc, withState, withRegisterTable, withPredicateTable}
 use Rattle.state_word.specs.State.{withOffsets}
 use Rattle.settings.specs.Setting as call
 use Rattle.settings.specs.Setting.{Setting}
@@ -78,7 +78,7 @@ withLengths mvl vl m = withState m (record { mvl = mvl; vl = vl; cfg = 24; sourc
 
 -- program counter, source offset and destination offset
 unfoldable pub positioned : ℕ → ℕ → ℕ → Machine → Machine
-positioned pc source destination m = withRoom m (m .registers) pc (withOffsets (m .state) source destination)
+positioned pc source destination m = withState (withPc m pc) (withOffsets (m .state) source destination)
 
 -- P2 and P3: 41 and 43 hold 9, and x3, the mask by the given entry for key 5, is 5: positions 0 and 2 are on.
 unfoldable pub nines : ℕ → Machine

@@ -6,7 +6,7 @@ use mathlib.Core.Path.{_≡_}
 use mathlib.Core.Bool.{cond}
 use mathlib.Core.List.{List, [], _∷_, _++_}
 use lib.ListN.{length, replicate}
-use Rattle.tables.specs.Enabled.{enabled}
+use Rattle.tables.specs.Enabled.{enabledRange, inRange}
 use Rattle.memory.specs.LittleEndian.{Bytes, number}
 use Rattle.machine.specs.Shape.{freshMachine}
 use Rattle.machine.specs.Setting.{setStateWord}
@@ -35,7 +35,7 @@ use Rattle.bench_readings.specs.Machines.{
 -- the indices below n that a CFG enables, rising
 unfoldable pub enabledBelow : ℕ → ℕ → List ℕ
 enabledBelow zero cfg = []
-enabledBelow (suc n) cfg = enabledBelow n cfg ++ cond (enabled cfg n) (n ∷ []) []
+enabledBelow (suc n) cfg = enabledBelow n cfg ++ cond (inRange (enabledRange cfg) n) (n ∷ []) []
 
 -- every entry that a CFG enables, looked for below 32 and so past the 16 of a table
 abbrev pub enabledEntries : ℕ → List ℕ

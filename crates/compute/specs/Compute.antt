@@ -7,9 +7,11 @@ use mir.Val.{boolByte}
 use Rattle.scalar.specs.Signed.{lowWord, signedLess, arithmeticShift, signExtended}
 use Rattle.scalar.specs.declared.width.Width.the-variants.{Word}
 use Rattle.scalar.specs.declared.operator.Operator.{Operator}
-use Rattle.scalar.specs.declared.operator.Operator.the-variants.{Add, Sub, Sll, Slt, Sltu, Xor, Srl, Sra, Or, And, Addw, Subw, Sllw, Srlw, Sraw}
+use Rattle.scalar.specs.declared.operator.Operator.the-variants.{Add, Sub, Sll, Slt, Sltu, Xor, Srl, Sra, Or, And}
+use Rattle.scalar.specs.declared.operator.Operator.the-variants.{Addw, Subw, Sllw, Srlw, Sraw}
 
--- A shift is by the low 6 bits of b, in a W form by the low 5. A W form works on the low words and sign-extends the low word of its result.
+-- A shift is by the low 6 bits of b, in a W form by the low 5. A W form works on the low words and sign-extends the low
+-- word of its result.
 unfoldable pub computed : Operator → ℕ → ℕ → ℕ
 computed Add a b = (a + b) % 2 ^ 64
 computed Sub a b = (a + (2 ^ 64 - b)) % 2 ^ 64

@@ -4,10 +4,11 @@ use mathlib.Core.Path.{_≡_, sym, _∙_}
 use mathlib.Core.Bool.{Bool, true, false, cond}
 use mathlib.Core.List.{List}
 use native.Mathlib.Omega.{arith}
+use Rattle.tables.specs.declared.enabled.Range.{Range}
 use Rattle.search.specs.declared.Table.{Table}
 use Rattle.search.specs.declared.Held.{Held}
 use Rattle.search.specs.declared.Held.the-variants.{At}
-use Rattle.search.specs.Search.{candidate, highest, held}
+use Rattle.search.specs.Search.{candidate, highest, heldEntry}
 
 highest-below : (test : ℕ → Bool) (n i : ℕ) → highest test n ≡ At i → i < n
 unfolding highest
@@ -19,7 +20,7 @@ highest-below test (suc n) i e = by (test n) e (highest-below test n i)
     by false e next = let below = next e in omega arith
 
 pub held-below :
-    (table : Table) (entries : List ℕ) (cfg key : ℕ) {found : Held} {i : ℕ} →
-    found ≡ held table entries cfg key → found ≡ At i → i < 16
-unfolding held
-held-below table entries cfg key {found} {i} e f = highest-below (candidate table entries cfg key) 16 i (sym e ∙ f)
+    (table : Table) (entries : List ℕ) (range : Range) (key : ℕ) {found : Held} {i : ℕ} →
+    found ≡ heldEntry table entries range key → found ≡ At i → i < 16
+unfolding heldEntry
+held-below table entries range key {found} {i} e f = highest-below (candidate table entries range key) 16 i (sym e ∙ f)

@@ -1,13 +1,14 @@
 use mathlib.Core.Path.{refl}
 use Rattle.tables.specs.Enabled.{enabledRange}
-use Rattle.search.specs.Search.{answers, candidate, highest, held}
+use Rattle.search.specs.Search.{entryAnswers, candidate, highest, heldEntry}
 use Rattle.encoding.specs.Listing.{funct3Rows, funct6Rows, funct7Rows, firstForm, lookUp}
 use Rattle.decode.specs.Naming.{named}
 use Rattle.decode.specs.Decoding.{decoded, decodedAs, compressedMove}
 use Rattle.decode.specs.Readings.{Readings}
 
 pub readings : Readings
-unfolding enabledRange answers candidate highest held funct3Rows funct6Rows funct7Rows firstForm lookUp named decoded decodedAs compressedMove
+unfolding enabledRange entryAnswers candidate highest heldEntry funct3Rows funct6Rows funct7Rows firstForm lookUp
+    named decoded decodedAs compressedMove
 readings =
     record {
       add = refl;

@@ -5,7 +5,7 @@ use mathlib.Core.List.{List}
 use lib.Dec.{eqb}
 use Rattle.scalar.specs.declared.width.Width.{Width}
 use Rattle.scalar.specs.declared.operator.Operator.{Operator}
-use Rattle.tables.specs.Bits.{bits}
+use Rattle.bits.specs.Bits.{bits}
 use Rattle.decode.specs.declared.decoded.Named.{Named}
 use Rattle.decode.specs.declared.decoded.Second.{Second}
 use Rattle.decode.specs.declared.decoded.Second.the-variants as second

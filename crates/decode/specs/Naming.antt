@@ -8,7 +8,8 @@ use Rattle.search.specs.declared.Held.{Held}
 use Rattle.search.specs.declared.Held.the-variants.{At, Nothing}
 use Rattle.search.specs.declared.Table.the-variants as table
 use Rattle.tables.specs.Entry.{registerEntry}
-use Rattle.search.specs.Search.{held}
+use Rattle.tables.specs.Enabled.{enabledRange}
+use Rattle.search.specs.Search.{heldEntry}
 use Rattle.decode.specs.declared.decoded.Operand.{Operand}
 use Rattle.decode.specs.declared.decoded.Operand.the-variants.{Plain, Scalar, Vector}
 use Rattle.decode.specs.declared.decoded.Named.{Named}
@@ -33,9 +34,10 @@ predicateBy Nothing entries = 0
 -- The key is the register number written in the instruction, for both tables.
 unfoldable pub named : ℕ → List ℕ → List ℕ → ℕ → Named
 named cfg registerTable predicateTable key =
-    let registerHeld = held table.Register registerTable cfg key in
+    let range = enabledRange cfg in
+    let registerHeld = heldEntry table.Register registerTable range key in
     record {
       operand = operandBy registerHeld registerTable key;
       width = widthBy registerHeld registerTable;
-      predicate = predicateBy (held table.Predicate predicateTable cfg key) predicateTable;
+      predicate = predicateBy (heldEntry table.Predicate predicateTable range key) predicateTable;
     }

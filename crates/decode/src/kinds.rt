@@ -22,7 +22,10 @@ pub(crate) fn operation<'a>(
     register_table: &'a [u16; 16],
     predicate_table: &'a [u16; 16],
 ) -> Decoded
-    ensures { λ r. ⌜ r ≡ operationWith (named cfg (now («register_table» .entry)) (now («predicate_table» .entry))) word operator second ⌝ }
+    ensures { λ r. ⌜
+        (let name = named cfg (now («register_table» .entry)) (now («predicate_table» .entry)) in
+        r ≡ operationWith name word operator second)
+        ⌝ }
 {
     let destination = named_for(fields::rd(word), cfg, register_table, predicate_table);
     let first = named_for(fields::rs1(word), cfg, register_table, predicate_table);
@@ -43,7 +46,10 @@ pub(crate) fn load<'a>(
     register_table: &'a [u16; 16],
     predicate_table: &'a [u16; 16],
 ) -> Decoded
-    ensures { λ r. ⌜ r ≡ loadWith (named cfg (now («register_table» .entry)) (now («predicate_table» .entry))) word width signed ⌝ }
+    ensures { λ r. ⌜
+        (let name = named cfg (now («register_table» .entry)) (now («predicate_table» .entry)) in
+        r ≡ loadWith name word width signed)
+        ⌝ }
 {
     let destination = named_for(fields::rd(word), cfg, register_table, predicate_table);
     let address = named_for(fields::rs1(word), cfg, register_table, predicate_table);
@@ -65,7 +71,10 @@ pub(crate) fn store<'a>(
     register_table: &'a [u16; 16],
     predicate_table: &'a [u16; 16],
 ) -> Decoded
-    ensures { λ r. ⌜ r ≡ storeWith (named cfg (now («register_table» .entry)) (now («predicate_table» .entry))) word width ⌝ }
+    ensures { λ r. ⌜
+        (let name = named cfg (now («register_table» .entry)) (now («predicate_table» .entry)) in
+        r ≡ storeWith name word width)
+        ⌝ }
 {
     let data = named_for(fields::rs2(word), cfg, register_table, predicate_table);
     let address = named_for(fields::rs1(word), cfg, register_table, predicate_table);
@@ -85,7 +94,10 @@ pub(crate) fn compressed<'a>(
     register_table: &'a [u16; 16],
     predicate_table: &'a [u16; 16],
 ) -> Decoded
-    ensures { λ r. ⌜ r ≡ compressedMove (named cfg (now («register_table» .entry)) (now («predicate_table» .entry))) word ⌝ }
+    ensures { λ r. ⌜
+        (let name = named cfg (now («register_table» .entry)) (now («predicate_table» .entry)) in
+        r ≡ compressedMove name word)
+        ⌝ }
 {
     if word % 4 != 0b10 {
         return Decoded::Unknown;

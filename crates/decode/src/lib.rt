@@ -23,7 +23,9 @@ pub fn decode<'a>(
     register_table: &'a [u16; 16],
     predicate_table: &'a [u16; 16],
 ) -> Decoded
-    ensures { λ r. ⌜ r ≡ decoded word cfg (now («register_table» .entry)) (now («predicate_table» .entry)) ⌝ }
+    ensures { λ r. ⌜
+        r ≡ decoded word cfg (now («register_table» .entry)) (now («predicate_table» .entry))
+        ⌝ }
 {
     if word % 4 != 0b11 {
         return compressed(word, cfg, register_table, predicate_table);

@@ -1,20 +1,27 @@
 // What a register number of an instruction names, by the two tables.
 ghost use mathlib.Core.Path.{_≡_};
-ghost use Rattle.search.specs.Search.{held};
+ghost use Prim.Native.Nat.{_≤_};
+ghost use Rattle.search.specs.Search.{heldEntry};
 ghost use Rattle.search.specs.declared.Table.the-variants.{Predicate};
 ghost use Rattle.decode.specs.Naming.{named, predicateBy, redirected};
 use crate::decoded::Named;
 use crate::decoded::Operand;
 use search::Held;
 use search::Table;
-use search::held_for;
+use search::held_entry;
+use tables::enabled::Range;
+use tables::enabled::enabled_range;
 use tables::entry::RegisterEntry;
 
 // The word of the predicate entry that holds for a key, 0 where none does.
-fn predicate_for(entries: &[u16; 16], cfg: u32, key: u8) -> u16
-    ensures { λ r. ⌜ r ≡ predicateBy (held Predicate (now (entries .entry)) cfg key) (now (entries .entry)) ⌝ }
+fn predicate_by(entries: &[u16; 16], range: Range, key: u8) -> u16
+    requires { ⌜ range .end ≤ 16 ⌝ }
+    ensures { λ r. ⌜
+        (let words = now (entries .entry) in
+        r ≡ predicateBy (heldEntry Predicate words range key) words)
+        ⌝ }
 {
-    match held_for(Table::Predicate, entries, cfg, key) {
+    match held_entry(Table::Predicate, entries, range, key) {
         Held::At(i) => entries[i],
         Held::Nothing => 0,
     }
@@ -40,8 +47,9 @@ pub fn named_for<'a>(
 ) -> Named
     ensures { λ r. ⌜ r ≡ named cfg (now («register_table» .entry)) (now («predicate_table» .entry)) key ⌝ }
 {
-    let predicate = predicate_for(predicate_table, cfg, key);
-    match held_for(Table::Register, register_table, cfg, key) {
+    let range = enabled_range(cfg);
+    let predicate = predicate_by(predicate_table, range, key);
+    match held_entry(Table::Register, register_table, range, key) {
         Held::At(i) => {
             let entry = RegisterEntry::of(register_table[i]);
             Named {

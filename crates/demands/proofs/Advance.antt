@@ -12,17 +12,16 @@ use Rattle.pairs.specs.declared.Side.{Side}
 use Rattle.pairs.specs.declared.Pair.{Pair}
 use Rattle.pairs.specs.declared.Pair.the-variants.{Found, End}
 use Rattle.pairs.specs.Side.{start, next, past}
-use Rattle.pairs.proofs.Laws.{found-rest, rests-from}
+use Rattle.pairs.proofs.Found.{found-rest, rests-from}
 use Rattle.pausable.specs.Outcome.{Outcome, Paused}
 use Rattle.walk.specs.declared.position.Position.{Position}
 use Rattle.walk.specs.declared.position.Ran.{Ran}
 use Rattle.walk.specs.declared.operation.OperationPlan.{OperationPlan}
 use Rattle.transfers.specs.declared.sides.Sides.{Sides}
 use Rattle.walk.specs.Context.{Context, left, ended, onward, pausing}
-use Rattle.walk.specs.Operation.{goOn, afterOn, positionDone, operationUnit}
+use Rattle.walk.specs.Operation.{goOn, afterOn, positionAfter, operationUnit}
 use Rattle.transfers.specs.Transfer.{Transferred, moved, outside, pairOf, afterPair, settled, atPair, transferUnit}
-use Rattle.walk.proofs.OperationLaws.{by-cond}
-use Rattle.demands.proofs.Units.{or-false}
+use Rattle.bits.proofs.Booleans.{by-cond, or-false}
 
 -- an answer is a pause only where the position has gone up, by some count of positions
 abbrev pub Rises : (Position → ℕ) → Position → Ran → Type 0
@@ -37,26 +36,26 @@ unfolding pauses
 fault-ends address e = true≢false (sym e)
 
 -- an operation counts by its destination offset
-module _ (p : OperationPlan) (position : Position) where
+module _ (vl : ℕ) (position : Position) where
   abbrev RisesFrom : Ran → Type 0
   RisesFrom = Rises (λ x. x .destination) position
 
-  go-on-rises : RisesFrom (goOn p position (position .destination))
+  go-on-rises : RisesFrom (goOn vl position (position .destination))
   unfolding goOn
   go-on-rises =
-      by-cond RisesFrom (ltb (position .destination + 1) (p .vl)) (λ e q. omega arith) (λ e q. absurd (done-ends 0 q))
+      by-cond RisesFrom (ltb (position .destination + 1) vl) (λ e q. omega arith) (λ e q. absurd (done-ends 0 q))
 
-  after-on-rises : RisesFrom (afterOn p position (position .destination))
+  after-on-rises : (vector : Bool) → RisesFrom (afterOn vl vector position (position .destination))
   unfolding afterOn
-  after-on-rises = by-cond RisesFrom (p .destination .vector) (λ e. go-on-rises) (λ e q. absurd (done-ends 0 q))
+  after-on-rises vector = by-cond RisesFrom vector (λ e. go-on-rises) (λ e q. absurd (done-ends 0 q))
 
 pub operation-rises :
     (p : OperationPlan) (c : Context) → Paused pausing (operationUnit p c) →
     c .position .destination < operationUnit p c .state .position .destination
-unfolding operationUnit positionDone
+unfolding operationUnit positionAfter
 operation-rises p c =
-    by-cond (λ (o : Outcome Answer Context). Paused pausing o → c .position .destination < o .state .position .destination)
-    (isOn (p .mask) (c .position .destination)) (λ e. after-on-rises p (c .position)) (λ e. go-on-rises p (c .position))
+    by-cond (RisesFrom (p .vl) (c .position)) (isOn (p .mask) (c .position .destination))
+    (λ e. after-on-rises (p .vl) (c .position) (p .destination .vector)) (λ e. go-on-rises (p .vl) (c .position))
 
 -- the others count by their source side if it walks, and by the destination side if not
 abbrev pub counted : Sides → Position → ℕ

@@ -4,7 +4,7 @@ use mathlib.Core.Path.{_≡_, refl, sym, _∙_}
 use mathlib.Core.Bool.{Bool, true, false, cond, not, _&&_, true≢false}
 use mathlib.Core.List.{List}
 use native.Mathlib.Omega.{arith}
-use borrow.Author.Tests.{eq-eqb}
+use borrow.Author.Tests.{eq-eqb, not-false}
 use Rattle.answers.specs.declared.Answer.{Answer}
 use Rattle.answers.specs.Answer.{numberOf, pauses}
 use Rattle.decode.specs.declared.decoded.Decoded.{Decoded}
@@ -23,10 +23,10 @@ use Rattle.accesses.specs.Storing.{storeUnit, storeElement}
 use Rattle.plans.specs.Plan.{operationPlan, movePlan, loadPlan, storePlan}
 use Rattle.handler.specs.Prepare.{Plan, operation, move, load, store, prepared}
 use Rattle.handler.specs.Unit.{unitOf}
-use Rattle.machine.proofs.Placed.{standing-within}
+use Rattle.machine.proofs.Handled.{standing-within}
 use Rattle.machine.specs.Run.{System, contextOf, positionOf, wordOn, prepare, unit, run}
 use Rattle.demands.specs.Cuts.{NeverPauses}
-use Rattle.walk.proofs.OperationLaws.{by-cond}
+use Rattle.bits.proofs.Booleans.{by-cond}
 use Rattle.demands.proofs.Preparing.{served-plan}
 use Rattle.demands.proofs.Systems.{PlanOf, plan-of, plan-kept}
 use Rattle.demands.proofs.Advance.{counted, Goes, operation-rises, transfer-rises}
@@ -45,10 +45,6 @@ counted-within vl position w (move s) = by-cond (λ x. x < vl) (s .source .walks
 counted-within vl position w (load p) = by-cond (λ x. x < vl) (p .sides .source .walks) (λ e. w .source) (λ e. w .destination)
 counted-within vl position w (store p) = by-cond (λ x. x < vl) (p .sides .source .walks) (λ e. w .source) (λ e. w .destination)
 
-not-not : (t : Bool) → not t ≡ false → t ≡ true
-not-not true e = refl
-not-not false e = absurd (true≢false e)
-
 module _ (vl : ℕ) (registers : List ℕ) (c : Context) where
   unit-rises :
       (word : Decoded) (plan : Plan) → prepared vl registers word ≡ ready plan → Paused pausing (unitOf plan c) →
@@ -60,7 +56,7 @@ module _ (vl : ℕ) (registers : List ℕ) (c : Context) where
   unit-rises (Move w) plan e =
       rw (served-plan vl (Move w) (move (movePlan vl registers w)) plan e)
       (unfold moveUnit in
-      transfer-rises (movePlan vl registers w) (unfold movePlan in λ single still. not-not _ single) 2
+      transfer-rises (movePlan vl registers w) (unfold movePlan in λ single still. not-false _ single) 2
       (moveElement (movePlan vl registers w)) c)
   unit-rises (Load w) plan e =
       rw (served-plan vl (Load w) (load (loadPlan vl registers w)) plan e)

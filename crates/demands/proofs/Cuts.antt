@@ -5,8 +5,8 @@ use mathlib.Core.Bool.{true, false}
 use mathlib.Core.List.{List}
 use lib.ListN.{getD}
 use Rattle.answers.specs.declared.Answer.{Answer}
-use Rattle.answers.specs.declared.Answer.the-variants.{Done, Paused, UnknownWord, PastRegisters, BadWidth, Fault, OutOfShape, BadValue, NoSuchPlace}
-use Rattle.answers.specs.Answer.{pauses}
+use borrow.Author.Tests.{ne-eqb}
+use Rattle.answers.specs.Answer.{numberOf, pauses}
 use Rattle.pausable.specs.Outcome.{Outcome}
 use Rattle.pausable.specs.Call.{ready, Further, NoRefusalPauses}
 use Rattle.pausable.specs.Cut.{ReadyFor, Cuttable}
@@ -26,15 +26,7 @@ use Rattle.demands.proofs.Systems.{plan-of, plan-kept, sound-on, prepar
 
 refusal-ends : (a : Answer) → Refusal a → pauses a ≡ false
 unfolding pauses
-refusal-ends (Done value) r = absurd r
-refusal-ends Paused r = absurd r
-refusal-ends UnknownWord r = refl
-refusal-ends PastRegisters r = refl
-refusal-ends BadWidth r = refl
-refusal-ends (Fault address) r = absurd r
-refusal-ends OutOfShape r = refl
-refusal-ends BadValue r = absurd r
-refusal-ends NoSuchPlace r = absurd r
+refusal-ends a r = ne-eqb (numberOf a) 1 (r .ends)
 
 pub no-refusal-pauses : (word : ℕ) → NoRefusalPauses pausing (prepare word)
 no-refusal-pauses word s a e = refusal-ends a (prepare-refusal word s a e)

@@ -1,7 +1,7 @@
 -- A unit that faults changes nothing but the offsets, which stand at its pair.
 use Prim.Native.Nat.{ℕ, _+_}
 use mathlib.Core.Path.{_≡_, refl}
-use mathlib.Core.Bool.{cond, _||_}
+use mathlib.Core.Bool.{Bool, _||_}
 use native.Mathlib.Omega.{arith}
 use lib.Dec.{ltb}
 use Rattle.answers.specs.declared.Answer.{Answer}
@@ -16,7 +16,7 @@ use Rattle.walk.specs.declared.position.Ran.{Ran}
 use Rattle.walk.specs.declared.operation.OperationPlan.{OperationPlan}
 use Rattle.transfers.specs.declared.sides.Sides.{Sides}
 use Rattle.walk.specs.Context.{Context, context, standing}
-use Rattle.walk.specs.Operation.{goOn, afterOn, positionDone, operationUnit}
+use Rattle.walk.specs.Operation.{goOn, afterOn, positionAfter, operationUnit}
 use Rattle.transfers.specs.Moving.{moveUnit, moveElement}
 use Rattle.accesses.specs.Loading.{loadUnit, loadElement}
 use Rattle.accesses.specs.Storing.{storeUnit, storeElement}
@@ -24,7 +24,7 @@ use Rattle.transfers.specs.Transfer.{Transferred, moved, outside, pairOf, after
 use Rattle.handler.specs.Prepare.{Plan, operation, move, load, store}
 use Rattle.handler.specs.Unit.{unitOf}
 use Rattle.demands.specs.Run.{pairAt}
-use Rattle.walk.proofs.OperationLaws.{by-cond}
+use Rattle.bits.proofs.Booleans.{by-cond}
 
 abbrev pub Faults : Answer → Type 0
 Faults a = numberOf a ≡ 5
@@ -36,29 +36,30 @@ pub record AtPair (pair : Pair) (c d : Context) : Type 0 where
   pub found : pair ≡ Found source destination
   pub stands : d ≡ context (c .registers) (c .memory) (standing (c .position) source destination)
 
-module _ (p : OperationPlan) (position : Position) (i : ℕ) where
-  go-on-served : Faults (goOn p position i .answer) → ⊥
-  unfolding goOn
-  go-on-served =
-      by-cond (λ (ran : Ran). Faults (ran .answer) → ⊥) (ltb (i + 1) (p .vl)) (λ e f. omega (arith, f)) (λ e f. omega (arith, f))
+abbrev Serves : Ran → Type 0
+Serves ran = Faults (ran .answer) → ⊥
 
-  after-on-served : Faults (afterOn p position i .answer) → ⊥
+module _ (vl : ℕ) (position : Position) (i : ℕ) where
+  go-on-served : Serves (goOn vl position i)
+  unfolding goOn
+  go-on-served = by-cond Serves (ltb (i + 1) vl) (λ e f. omega (arith, f)) (λ e f. omega (arith, f))
+
+  after-on-served : (vector : Bool) → Serves (afterOn vl vector position i)
   unfolding afterOn
-  after-on-served =
-      by-cond (λ (ran : Ran). Faults (ran .answer) → ⊥) (p .destination .vector) (λ e. go-on-served) (λ e f. omega (arith, f))
+  after-on-served vector = by-cond Serves vector (λ e. go-on-served) (λ e f. omega (arith, f))
 
 operation-served : (p : OperationPlan) (c : Context) → Faults (operationUnit p c .answer) → ⊥
-unfolding operationUnit positionDone
+unfolding operationUnit positionAfter
 operation-served p c =
-    by-cond (λ (o : Outcome Answer Context). Faults (o .answer) → ⊥) (isOn (p .mask) (c .position .destination))
-    (λ e. after-on-served p (c .position) (c .position .destination))
-    (λ e. go-on-served p (c .position) (c .position .destination))
+    let i = c .position .destination in
+    by-cond Serves (isOn (p .mask) i) (λ e. after-on-served (p .vl) (c .position) i (p .destination .vector))
+    (λ e. go-on-served (p .vl) (c .position) i)
 
 module _ (s : Sides) (bytes : ℕ) (c : Context) where
   after-pair-served : (i j : ℕ) → Faults (afterPair s bytes (c .position) i j .answer) → ⊥
   unfolding afterPair
   after-pair-served i j =
-      by-cond (λ (ran : Ran). Faults (ran .answer) → ⊥)
+      by-cond Serves
       (s .single || past (s .source) (s .vl) (next (s .source) i) || past (s .destination) (s .vl) (next (s .destination) j))
       (λ e f. omega (arith, f)) (λ e f. omega (arith, f))
 

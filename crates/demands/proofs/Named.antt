@@ -6,9 +6,10 @@ use lib.Dec.{eqb}
 use lib.ListN.{getD}
 use native.Mathlib.Nat.{mod-lt}
 use native.Mathlib.Omega.{arith}
-use Rattle.tables.specs.Bits.{bits}
+use Rattle.bits.specs.Bits.{bits}
 use Rattle.tables.specs.Entry.{registerEntry}
-use Rattle.search.specs.Search.{held}
+use Rattle.tables.specs.Enabled.{enabledRange}
+use Rattle.search.specs.Search.{heldEntry}
 use Rattle.search.specs.declared.Held.{Held}
 use Rattle.search.specs.declared.Held.the-variants.{At, Nothing}
 use Rattle.search.specs.declared.Table.the-variants as table
@@ -20,9 +21,9 @@ use Rattle.decode.specs.declared.decoded.Named.{Named}
 use Rattle.decode.specs.declared.decoded.Operand.the-variants.{Scalar, Vector}
 use Rattle.decode.specs.Naming.{named, operandBy}
 use Rattle.decode.specs.Decoding.{decodedAs, compressedMove, decoded}
-use Rattle.operands.specs.Place.{placeOf}
+use Rattle.operands.specs.Place.{placeBy, placeOf}
 use Rattle.plans.specs.Operands.{operandsOf}
-use Rattle.walk.proofs.OperationLaws.{by-cond}
+use Rattle.bits.proofs.Booleans.{by-cond}
 
 -- every operand of a list has Q
 abbrev pub All : (Named → Type 0) → List Named → Type 0
@@ -30,7 +31,7 @@ All Q [] = Unit {0}
 All Q (n ∷ ns) = Q n × All Q ns
 
 abbrev pub Small : Named → Type 0
-Small n = placeOf (n .operand) .register < 128
+Small n = placeOf n .register < 128
 
 -- what holds of each register number of 5 bits holds of the operands of a word
 module _ (Q : Named → Type 0) (name : ℕ → Named) (q : (key : ℕ) → key < 32 → Q (name key)) (word : ℕ) where
@@ -64,14 +65,14 @@ module _ (Q : Named → Type 0) (name : ℕ → Named) (q : (key : ℕ) → key 
 -- a register that a number of 5 bits names has 7 bits at most
 named-small : (cfg : ℕ) (registerTable predicateTable : List ℕ) (key : ℕ) → key < 32 → Small (named cfg registerTable predicateTable key)
 unfolding named
-named-small cfg registerTable predicateTable key h = by (held table.Register registerTable cfg key)
+named-small cfg registerTable predicateTable key h = by (heldEntry table.Register registerTable (enabledRange cfg) key)
   where
-    by : (e : Held) → placeOf (operandBy e registerTable key) .register < 128
+    by : (e : Held) → placeBy (operandBy e registerTable key) .register < 128
     by (At i) = entry (registerEntry (getD registerTable i 0) .vector)
       where
         entry :
             (t : Bool) →
-            placeOf (cond t (Vector (registerEntry (getD registerTable i 0) .register)) (Scalar (registerEntry (getD registerTable i 0) .register))) .register < 128
+            placeBy (cond t (Vector (registerEntry (getD registerTable i 0) .register)) (Scalar (registerEntry (getD registerTable i 0) .register))) .register < 128
         entry true = mod-lt _ (omega arith)
         entry false = mod-lt _ (omega arith)
     by Nothing = omega (arith, h)

@@ -1,7 +1,7 @@
 -- A unit of the plan of a word writes only the registers that the word may write.
 use Prim.Native.Nat.{ℕ}
 use mathlib.Core.Logic.{inl}
-use mathlib.Core.Path.{_≡_}
+use mathlib.Core.Path.{_≡_, refl}
 use mathlib.Core.List.{List}
 use lib.ListN.{getD}
 use native.Mathlib.Omega.{arith}
@@ -28,7 +28,7 @@ use Rattle.handler.specs.Prepare.{Plan, operation, move, load, store, prepared}
 use Rattle.handler.specs.Unit.{unitOf}
 use Rattle.demands.specs.Premise.{MayWrite}
 use Rattle.demands.proofs.RegistersKept.{unwritten, one-written}
-use Rattle.demands.proofs.Preparing.{served-plan, spans}
+use Rattle.demands.proofs.Preparing.{served-plan}
 use Rattle.demands.proofs.Units.{UnitSound, operation-sound, transfer-sound, TransferKept}
 
 module _ (Writes : ℕ → Type 0) (c : Context) where
@@ -70,17 +70,17 @@ module _ (vl : ℕ) (registers : List ℕ) (c : Context) (within : Within vl (c 
       rw (served-plan vl (Operation w) (operation (operationPlan vl registers w)) plan e)
       (unfold operationPlan in
       operation-sound (operationPlan vl registers w) (MayWrite vl (Operation w)) c (within .destination)
-      (λ i h. inl (spans vl (w .destination) i h)))
+      (λ i h. inl (record { position = i; below = omega (arith, h); register = refl })))
   unit-sound (Move w) plan e =
       rw (served-plan vl (Move w) (move (movePlan vl registers w)) plan e)
       (unfold movePlan moveUnit in
       transfer-sound (movePlan vl registers w) 2 (MayWrite vl (Move w)) c within (moveElement (movePlan vl registers w))
-      (λ i j h k. move-kept (MayWrite vl (Move w)) c (movePlan vl registers w) i j (inl (spans vl (w .destination) j k))))
+      (λ i j h k. move-kept (MayWrite vl (Move w)) c (movePlan vl registers w) i j (inl (record { position = j; below = omega (arith, k); register = refl }))))
   unit-sound (Load w) plan e =
       rw (served-plan vl (Load w) (load (loadPlan vl registers w)) plan e)
       (unfold loadPlan loadUnit in
       transfer-sound (loadPlan vl registers w .sides) 4 (MayWrite vl (Load w)) c within (loadElement (loadPlan vl registers w))
-      (λ i j h k. load-kept (MayWrite vl (Load w)) c (loadPlan vl registers w) i j (inl (spans vl (w .destination) j k))))
+      (λ i j h k. load-kept (MayWrite vl (Load w)) c (loadPlan vl registers w) i j (inl (record { position = j; below = omega (arith, k); register = refl }))))
   unit-sound (Store w) plan e =
       rw (served-plan vl (Store w) (store (storePlan vl registers w)) plan e)
       (unfold storePlan storeUnit in

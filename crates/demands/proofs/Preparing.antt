@@ -1,54 +1,37 @@
 -- What a word that was prepared says of its plan, and when it is prepared alike again.
-use Prim.Native.Nat.{ℕ, _+_, _-_, _<_, _≤_}
+use Prim.Native.Nat.{ℕ, _≤_}
 use mathlib.Core.Logic.{inl, inr}
 use mathlib.Core.Path.{_≡_, refl}
-use mathlib.Core.Bool.{Bool, true, false, cond}
+use mathlib.Core.Bool.{Bool, true, false, cond, not, _&&_}
 use mathlib.Core.List.{List}
 use native.Mathlib.Omega.{arith}
-use borrow.Author.Tests.{eqb-false}
-use lib.Dec.{eqb}
+use borrow.Author.Tests.{eqb-true, eqb-false, leb-true, not-true}
+use lib.Dec.{eqb, leb}
 use lib.ListN.{getD}
 use Rattle.answers.specs.declared.Answer.{Answer}
-use Rattle.answers.specs.declared.Answer.the-variants.{Done, Paused, UnknownWord, PastRegisters, BadWidth, Fault, OutOfShape, BadValue, NoSuchPlace}
+use Rattle.answers.specs.declared.Answer.the-variants.{Done, UnknownWord, PastRegisters, BadWidth}
+use Rattle.answers.specs.Answer.{numberOf, valueOf, accepts}
+use Rattle.bits.specs.Lists.{all}
+use Rattle.bits.proofs.Booleans.{and-left, and-right}
 use Rattle.decode.specs.declared.decoded.Named.{Named}
 use Rattle.decode.specs.declared.decoded.Decoded.{Decoded}
 use Rattle.decode.specs.declared.decoded.Decoded.the-variants.{Operation, Move, Load, Store, Unknown}
 use Rattle.tables.specs.Entry.{predicateEntry}
-use Rattle.operands.specs.declared.place.Place.{Place}
-use Rattle.operands.specs.Place.{placeOf, registerAt}
 use Rattle.operands.specs.Mask.{maskBy}
 use Rattle.pausable.specs.Call.{Prepared, refused, ready}
-use Rattle.plans.specs.Operands.{operandsOf, every, narrow, fitting}
+use Rattle.plans.specs.Operands.{operandsOf, defaultWidth, fitting, checkedOperands, checked}
 use Rattle.plans.specs.Plan.{operationPlan, movePlan, loadPlan, storePlan}
 use Rattle.handler.specs.Prepare.{Plan, operation, move, load, store, served, prepared}
-use Rattle.demands.specs.Premise.{IsMask, Spans}
+use Rattle.demands.specs.Premise.{IsMask}
 
 -- the plan of a served word is the one made for it
 pub served-plan : (vl : ℕ) (word : Decoded) (made plan : Plan) → served vl word made ≡ ready plan → plan ≡ made
 unfolding served
-served-plan vl word made plan = by (every narrow (operandsOf word)) (every (fitting vl) (operandsOf word))
+served-plan vl word made plan = by (accepts (checked vl word)) (checked vl word)
   where
-    by :
-        (a b : Bool) →
-        cond a (cond b (ready made) (refused PastRegisters)) (refused BadWidth) ≡ ready plan → plan ≡ made
-    by true true e = cc
-    by true false e = let z : _≡_ {A = ℕ} 0 1 = cc in absurd (omega arith)
-    by false b e = let z : _≡_ {A = ℕ} 0 1 = cc in absurd (omega arith)
-
--- a later position's register is no lower
-registers-rise : (p : Place) (i j : ℕ) → i ≤ j → (p .register ≤ registerAt p i) × (registerAt p i ≤ registerAt p j)
-unfolding registerAt
-registers-rise p i j h = by (p .vector)
-  where
-    by :
-        (t : Bool) →
-        (p .register ≤ cond t (p .register + i) (p .register)) × (cond t (p .register + i) (p .register) ≤ cond t (p .register + j) (p .register))
-    by true = (omega arith, omega arith)
-    by false = (omega arith, omega arith)
-
--- the registers of an operand's positions
-pub spans : (vl : ℕ) (n : Named) (i : ℕ) → i < vl → Spans vl (registerAt (placeOf (n .operand)) i) n
-spans vl n i h = registers-rise (placeOf (n .operand)) i _ (omega arith)
+    by : (t : Bool) (a : Answer) → cond t (ready made) (refused a) ≡ ready plan → plan ≡ made
+    by true a e = cc
+    by false a e = let z : _≡_ {A = ℕ} 0 1 = cc in absurd (omega arith)
 
 module _ (registers again : List ℕ) where
   abbrev SameAt : Named → Type 0
@@ -76,28 +59,38 @@ module _ (registers again : List ℕ) where
       rw (mask-same (w .«data») (λ n. same _ (inl (n, refl))), mask-same (w .address) (λ n. same _ (inr (inl (n, refl)))))
   prepared-same vl Unknown same = refl
 
--- the answers that refuse a word
-abbrev pub Refusal : Answer → Type 0
-Refusal (Done value) = ⊥
-Refusal Paused = ⊥
-Refusal UnknownWord = Unit {0}
-Refusal PastRegisters = Unit {0}
-Refusal BadWidth = Unit {0}
-Refusal (Fault address) = ⊥
-Refusal OutOfShape = Unit {0}
-Refusal BadValue = ⊥
-Refusal NoSuchPlace = ⊥
+-- an answer that refuses a word: it is one of a run's, no pause and no fault, and has no value
+pub record Refusal (a : Answer) : Type 0 where
+  pub most : numberOf a ≤ 6
+  pub ends : numberOf a ≡ 1 → ⊥
+  pub serves : numberOf a ≡ 5 → ⊥
+  pub value : valueOf a ≡ 0
+
+-- tested all at once
+pub refusal :
+    (a : Answer) → leb (numberOf a) 6 && not (eqb (numberOf a) 1) && not (eqb (numberOf a) 5) && eqb (valueOf a) 0 ≡ true →
+    Refusal a
+refusal a h =
+    let served = and-left _ _ h in
+    let ended = and-left _ _ served in
+    record {
+      most = leb-true (numberOf a) 6 (and-left _ _ ended);
+      ends = eqb-false (numberOf a) 1 (not-true _ (and-right (leb (numberOf a) 6) _ ended));
+      serves = eqb-false (numberOf a) 5 (not-true _ (and-right (leb (numberOf a) 6 && not (eqb (numberOf a) 1)) _ served));
+      value = eqb-true (valueOf a) 0 (and-right (leb (numberOf a) 6 && not (eqb (numberOf a) 1) && not (eqb (numberOf a) 5)) _ h);
+    }
 
 served-refusal : (vl : ℕ) (word : Decoded) (made : Plan) (a : Answer) → served vl word made ≡ refused a → Refusal a
-unfolding served
-served-refusal vl word made a = by (every narrow (operandsOf word)) (every (fitting vl) (operandsOf word))
+unfolding served accepts checkedOperands
+served-refusal vl word made a = by (all defaultWidth (operandsOf word)) (all (fitting vl) (operandsOf word))
   where
     by :
         (x y : Bool) →
-        cond x (cond y (ready made) (refused PastRegisters)) (refused BadWidth) ≡ refused a → Refusal a
+        let b = cond x (cond y (Done 0) PastRegisters) BadWidth in
+        cond (eqb (numberOf b) 0) (ready made) (refused b) ≡ refused a → Refusal a
     by true true e = let z : _≡_ {A = ℕ} 0 1 = cc in absurd (omega arith)
-    by true false e = let f : a ≡ PastRegisters = cc in rw f tt
-    by false y e = let f : a ≡ BadWidth = cc in rw f tt
+    by true false e = let f : a ≡ PastRegisters = cc in rw f (refusal PastRegisters refl)
+    by false y e = let f : a ≡ BadWidth = cc in rw f (refusal BadWidth refl)
 
 pub prepared-refusal :
     (vl : ℕ) (registers : List ℕ) (word : Decoded) (a : Answer) → prepared vl registers word ≡ refused a → Refusal a
@@ -106,4 +99,4 @@ prepared-refusal vl registers (Operation w) a = served-refusal vl (Operation w) 
 prepared-refusal vl registers (Move w) a = served-refusal vl (Move w) _ a
 prepared-refusal vl registers (Load w) a = served-refusal vl (Load w) _ a
 prepared-refusal vl registers (Store w) a = served-refusal vl (Store w) _ a
-prepared-refusal vl registers Unknown a = λ e. let f : a ≡ UnknownWord = cc in rw f tt
+prepared-refusal vl registers Unknown a = λ e. let f : a ≡ UnknownWord = cc in rw f (refusal UnknownWord refl)

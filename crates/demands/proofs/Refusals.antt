@@ -4,15 +4,17 @@ use mathlib.Core.Logic.{_↔_}
 use mathlib.Core.Path.{_≡_, refl, sym, _∙_}
 use mathlib.Core.Bool.{Bool, true, false, cond, true≢false}
 use mathlib.Core.List.{List}
+use lib.Dec.{eqb}
 use native.Mathlib.Omega.{arith}
 use Rattle.answers.specs.declared.Answer.{Answer}
-use Rattle.answers.specs.declared.Answer.the-variants.{UnknownWord, PastRegisters, BadWidth, OutOfShape}
-use Rattle.answers.specs.Answer.{numberOf}
+use Rattle.answers.specs.declared.Answer.the-variants.{Done, UnknownWord, PastRegisters, BadWidth, OutOfShape}
+use Rattle.answers.specs.Answer.{numberOf, accepts}
 use Rattle.decode.specs.declared.decoded.Decoded.{Decoded}
 use Rattle.decode.specs.declared.decoded.Decoded.the-variants.{Operation, Move, Load, Store, Unknown}
 use Rattle.pausable.specs.Walk.{walk}
 use Rattle.pausable.specs.Call.{Prepared, refused, ready, begun}
-use Rattle.plans.specs.Operands.{operandsOf, every, narrow, fitting}
+use Rattle.bits.specs.Lists.{all}
+use Rattle.plans.specs.Operands.{operandsOf, defaultWidth, fitting, checkedOperands}
 use Rattle.handler.specs.Prepare.{Plan, served, prepared}
 use Rattle.walk.specs.Context.{pausing}
 use Rattle.machine.specs.declared.Machine.{Machine}
@@ -23,27 +25,28 @@ use Rattle.demands.specs.Refusals.{SomeOtherWidth, SomePastVector, Refus
 use Rattle.demands.proofs.Systems.{plan-of}
 use Rattle.demands.proofs.Named.{word-small}
 use Rattle.demands.proofs.Tested.{other-width, no-other-width, past-vector, no-past-vector}
-use Rattle.demands.proofs.Runs.{walked, walked-serves}
+use Rattle.demands.proofs.Runs.{walked}
 
 -- what is prepared, by the tests of a word in their order
 module _ (Q : Prepared Answer Plan → Type 0) (vl : ℕ) (registers : List ℕ) where
   record Cases (d : Decoded) : Type 0 where
     unknown : d ≡ Unknown → Q (refused UnknownWord)
-    width : (d ≡ Unknown → ⊥) → every narrow (operandsOf d) ≡ false → Q (refused BadWidth)
+    width : (d ≡ Unknown → ⊥) → all defaultWidth (operandsOf d) ≡ false → Q (refused BadWidth)
     past :
-        (d ≡ Unknown → ⊥) → every narrow (operandsOf d) ≡ true → every (fitting vl) (operandsOf d) ≡ false →
+        (d ≡ Unknown → ⊥) → all defaultWidth (operandsOf d) ≡ true → all (fitting vl) (operandsOf d) ≡ false →
         Q (refused PastRegisters)
     serves :
-        (plan : Plan) → (d ≡ Unknown → ⊥) → every narrow (operandsOf d) ≡ true → every (fitting vl) (operandsOf d) ≡ true →
+        (plan : Plan) → (d ≡ Unknown → ⊥) → all defaultWidth (operandsOf d) ≡ true → all (fitting vl) (operandsOf d) ≡ true →
         Q (ready plan)
 
   by-served : (d : Decoded) (plan : Plan) → (d ≡ Unknown → ⊥) → Cases d → Q (served vl d plan)
-  unfolding served
-  by-served d plan known c = by (every narrow (operandsOf d)) (every (fitting vl) (operandsOf d)) refl refl
+  unfolding served accepts checkedOperands
+  by-served d plan known c = by (all defaultWidth (operandsOf d)) (all (fitting vl) (operandsOf d)) refl refl
     where
       by :
-          (a b : Bool) → every narrow (operandsOf d) ≡ a → every (fitting vl) (operandsOf d) ≡ b →
-          Q (cond a (cond b (ready plan) (refused PastRegisters)) (refused BadWidth))
+          (a b : Bool) → all defaultWidth (operandsOf d) ≡ a → all (fitting vl) (operandsOf d) ≡ b →
+          let answer = cond a (cond b (Done 0) PastRegisters) BadWidth in
+          Q (cond (eqb (numberOf answer) 0) (ready plan) (refused answer))
       by true true e f = c .serves plan known e f
       by true false e f = c .past known e f
       by false b e f = c .width known e
@@ -130,7 +133,7 @@ module _ (word n : ℕ) (s : System) where
             past-fails m d h k (no-other-width (operandsOf d) a) (past-vector (m .state .vl) (operandsOf d) small b);
         serves = λ plan k a b e.
             let answer = walk pausing (unit plan) n s .answer in
-            none-fails m d h k answer (walked-serves answer (walked word plan n s (plan-of word s plan e)))
+            none-fails m d h k answer (walked word plan n s (plan-of word s plan e) .serves)
             (no-other-width (operandsOf d) a) (no-past-vector (m .state .vl) (operandsOf d) b);
       }
 

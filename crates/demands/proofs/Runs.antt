@@ -1,9 +1,7 @@
 -- What a run comes to: a refusal, or the walk of a plan.
 use Prim.Native.Nat.{ℕ}
-use mathlib.Core.Path.{_≡_, refl, sym}
-use mathlib.Core.Bool.{true, true≢false}
+use mathlib.Core.Path.{_≡_, refl}
 use Rattle.answers.specs.declared.Answer.{Answer}
-use Rattle.answers.specs.declared.Answer.the-variants.{Done, Paused, UnknownWord, PastRegisters, BadWidth, Fault, OutOfShape, BadValue, NoSuchPlace}
 use Rattle.pausable.specs.Outcome.{Outcome, outcome}
 use Rattle.pausable.specs.Walk.{walk}
 use Rattle.pausable.specs.Call.{Prepared, refused, ready, begun}
@@ -12,29 +10,16 @@ use Rattle.pausable.proofs.Call.{called-ready, called-refused}
 use Rattle.walk.specs.Context.{pausing}
 use Rattle.handler.specs.Prepare.{Plan}
 use Rattle.machine.specs.Run.{System, prepare, unit, run}
-use Rattle.demands.specs.Run.{refuses}
-use Rattle.demands.proofs.Units.{Walked}
+use Rattle.demands.proofs.Units.{Walked, paused-walked}
 use Rattle.demands.proofs.Systems.{PlanOf, plan-kept, sound-on}
 
 pub walked : (word : ℕ) (plan : Plan) (n : ℕ) (s : System) → PlanOf word plan s → Walked (walk pausing (unit plan) n s .answer)
 walked word plan =
     walk-induction pausing (unit plan) (λ n s o. PlanOf word plan s → Walked (o .answer))
-    (λ s k. tt) (λ n s e k. unit-walked s k) (λ n s o e rest k. rest (plan-kept word s plan k))
+    (λ s k. paused-walked) (λ n s e k. unit-walked s k) (λ n s o e rest k. rest (plan-kept word s plan k))
   where
     unit-walked : (s : System) → PlanOf word plan s → Walked (unit plan s .answer)
     unit-walked s k = unfold unit in sound-on word s plan k .answer
-
--- a walk refuses nothing
-pub walked-serves : (a : Answer) → Walked a → refuses a ≡ true → ⊥
-walked-serves (Done value) w e = true≢false (sym e)
-walked-serves Paused w e = true≢false (sym e)
-walked-serves UnknownWord w e = absurd w
-walked-serves PastRegisters w e = absurd w
-walked-serves BadWidth w e = absurd w
-walked-serves (Fault address) w e = true≢false (sym e)
-walked-serves OutOfShape w e = absurd w
-walked-serves BadValue w e = absurd w
-walked-serves NoSuchPlace w e = absurd w
 
 module _ (word n : ℕ) (s : System) where
   pub run-walk : (plan : Plan) → prepare word s ≡ ready plan → run word n s ≡ walk pausing (unit plan) n s

@@ -5,7 +5,6 @@ use mathlib.Core.Bool.{true, false}
 use native.Mathlib.Omega.{arith}
 use borrow.Author.Tests.{eqb-true, ne-eqb}
 use Rattle.answers.specs.declared.Answer.{Answer}
-use Rattle.answers.specs.declared.Answer.the-variants.{Done, Paused, UnknownWord, PastRegisters, BadWidth, Fault, OutOfShape, BadValue, NoSuchPlace}
 use Rattle.answers.specs.Answer.{numberOf, pauses}
 use Rattle.pausable.specs.Outcome.{outcome}
 use Rattle.pausable.specs.Walk.{walk}
@@ -17,7 +16,6 @@ use Rattle.handler.specs.Prepare.{Plan}
 use Rattle.handler.specs.Unit.{unitOf}
 use Rattle.machine.specs.Run.{System, contextOf, positionOf, prepare, unit, run}
 use Rattle.demands.specs.Run.{standingAt, pairAt, StandsAtFault}
-use Rattle.demands.proofs.Preparing.{Refusal}
 use Rattle.demands.proofs.Systems.{prepare-refusal}
 use Rattle.demands.proofs.Faults.{unit-fault, Faults, AtPair}
 use Rattle.demands.proofs.Runs.{run-walk, run-refused}
@@ -29,17 +27,6 @@ is-paused a e = eqb-true (numberOf a) 1 e
 fault-ends : (a : Answer) → Faults a → pauses a ≡ false
 unfolding pauses
 fault-ends a f = ne-eqb (numberOf a) 1 (λ e. omega (arith, e, f))
-
-no-fault : (a : Answer) → Refusal a → Faults a → ⊥
-no-fault (Done value) r f = absurd r
-no-fault Paused r f = absurd r
-no-fault UnknownWord r f = omega (arith, f)
-no-fault PastRegisters r f = omega (arith, f)
-no-fault BadWidth r f = omega (arith, f)
-no-fault (Fault address) r f = absurd r
-no-fault OutOfShape r f = omega (arith, f)
-no-fault BadValue r f = absurd r
-no-fault NoSuchPlace r f = absurd r
 
 -- a unit that faults, on the machine and its memory
 fault-at :
@@ -92,5 +79,5 @@ fault-known word n s = by (prepare word s) refl
   where
     by : (r : Prepared Answer Plan) → prepare word s ≡ r → Faults (run word n s .answer) → StandsAtFault word n s
     by (refused a) e f =
-        absurd (no-fault a (prepare-refusal word s a e) (rw (run-refused word n s a e) at f))
+        absurd (prepare-refusal word s a e .serves (rw (run-refused word n s a e) at f))
     by (ready plan) e f = fault-stands word n s plan e f

@@ -19,12 +19,12 @@ use Rattle.handler.specs.Unit.{unitOf}
 use Rattle.machine.specs.declared.Machine.{Machine}
 use Rattle.machine.specs.Shape.{inShape}
 use Rattle.machine.specs.Run.{System, contextOf, withPosition, wordOn, prepare, unit}
-use Rattle.machine.proofs.Placed.{standing-within}
+use Rattle.machine.proofs.Handled.{standing-within}
 use Rattle.machine.proofs.Shapes.{parts, in-shape}
 use Rattle.demands.specs.Premise.{MayWrite}
 use Rattle.demands.proofs.RegistersKept.{RegistersKept}
-use Rattle.demands.proofs.Units.{UnitSound, Walked}
-use Rattle.demands.proofs.Preparing.{Refusal, prepared-refusal}
+use Rattle.demands.proofs.Units.{UnitSound}
+use Rattle.demands.proofs.Preparing.{Refusal, refusal, prepared-refusal}
 use Rattle.demands.proofs.PlanSound.{unit-sound}
 
 -- the machine that a sound unit leaves is in shape
@@ -76,7 +76,7 @@ module _ (word : ℕ) (s : System) where
           cond t (prepared (s .machine .state .vl) (s .machine .registers) (wordOn word (s .machine))) (refused OutOfShape)
           ≡ refused a → Refusal a
       by true = prepared-refusal (s .machine .state .vl) (s .machine .registers) (wordOn word (s .machine)) a
-      by false = λ e. let f : a ≡ OutOfShape = cc in rw f tt
+      by false = λ e. let f : a ≡ OutOfShape = cc in rw f (refusal OutOfShape refl)
 
   pub sound-on :
       (plan : Plan) → PlanOf word plan s →

@@ -1,42 +1,41 @@
 -- What holds of every unit, whatever it answers: the registers that it leaves, its offsets and its answers.
-use Prim.Native.Nat.{ℕ, _+_, _<_}
-use mathlib.Core.Path.{_≡_, refl}
+use Prim.Native.Nat.{ℕ, _+_, _<_, _≤_}
+use mathlib.Core.Path.{_≡_, refl, sym}
 use mathlib.Core.Bool.{Bool, true, false, _||_, true≢false}
 use mathlib.Core.List.{List}
 use native.Mathlib.Omega.{arith}
 use borrow.Author.Tests.{ltb-true}
 use lib.Dec.{ltb}
 use Rattle.answers.specs.declared.Answer.{Answer}
-use Rattle.answers.specs.declared.Answer.the-variants.{Done, Paused, UnknownWord, PastRegisters, BadWidth, Fault, OutOfShape, BadValue, NoSuchPlace}
+use Rattle.answers.specs.declared.Answer.the-variants.{Paused}
+use Rattle.answers.specs.Answer.{numberOf, valueOf}
 use Rattle.operands.specs.Place.{registerAt}
 use Rattle.operands.specs.Mask.{isOn}
 use Rattle.pairs.specs.declared.Pair.{Pair}
 use Rattle.pairs.specs.declared.Pair.the-variants.{Found, End}
 use Rattle.pairs.specs.Side.{next, past}
-use Rattle.pairs.proofs.Laws.{pair-in, start-in, next-in}
+use Rattle.pairs.proofs.Found.{pair-in, start-in, next-in}
 use Rattle.pausable.specs.Outcome.{Outcome}
 use Rattle.walk.specs.declared.position.Position.{Position}
 use Rattle.walk.specs.declared.position.Ran.{Ran}
 use Rattle.walk.specs.declared.operation.OperationPlan.{OperationPlan}
 use Rattle.transfers.specs.declared.sides.Sides.{Sides}
 use Rattle.walk.specs.Context.{Context, left, ended, onward, faulted}
-use Rattle.walk.specs.Operation.{elementOf, goOn, afterOn, positionDone, operationUnit}
+use Rattle.walk.specs.Operation.{elementOf, registersAfter, goOn, afterOn, positionAfter, operationUnit}
 use Rattle.transfers.specs.Transfer.{Transferred, moved, outside, pairOf, afterPair, settled, atPair, transferUnit}
 use Rattle.transfers.specs.SidesReady.{Within}
-use Rattle.walk.proofs.OperationLaws.{by-cond}
+use Rattle.bits.proofs.Booleans.{by-cond, or-false}
+use Rattle.demands.specs.Run.{refuses}
 use Rattle.demands.proofs.RegistersKept.{RegistersKept, unwritten, one-written}
 
--- answers 0, 1 and 5, with no value but an address
-abbrev pub Walked : Answer → Type 0
-Walked (Done value) = value ≡ 0
-Walked Paused = Unit {0}
-Walked UnknownWord = ⊥
-Walked PastRegisters = ⊥
-Walked BadWidth = ⊥
-Walked (Fault address) = Unit {0}
-Walked OutOfShape = ⊥
-Walked BadValue = ⊥
-Walked NoSuchPlace = ⊥
+-- an answer of a walk: it refuses nothing, and has no value but a fault's address
+pub record Walked (a : Answer) : Type 0 where
+  pub most : numberOf a ≤ 6
+  pub serves : refuses a ≡ true → ⊥
+  pub value : (numberOf a ≡ 5 → ⊥) → valueOf a ≡ 0
+
+pub paused-walked : Walked Paused
+paused-walked = record { most = omega arith; serves = λ e. true≢false (sym e); value = λ f. refl }
 
 pub record RanSound (vl : ℕ) (ran : Ran) : Type 0 where
   pub answer : Walked (ran .answer)
@@ -50,13 +49,19 @@ pub record UnitSound (vl : ℕ) (Writes : ℕ → Type 0) (registers : List ℕ)
 
 module _ (vl : ℕ) (position : Position) where
   ended-sound : (bytes : ℕ) → 0 < vl → RanSound vl (ended bytes position)
-  ended-sound bytes h = record { answer = refl; within = record { source = h; destination = h } }
+  ended-sound bytes h = record {
+    answer = record { most = omega arith; serves = λ e. true≢false (sym e); value = λ f. refl };
+    within = record { source = h; destination = h };
+  }
 
   onward-sound : (i j : ℕ) → i < vl → j < vl → RanSound vl (onward position i j)
-  onward-sound i j h k = record { answer = tt; within = record { source = h; destination = k } }
+  onward-sound i j h k = record { answer = paused-walked; within = record { source = h; destination = k } }
 
   faulted-sound : (address i j : ℕ) → i < vl → j < vl → RanSound vl (faulted address position i j)
-  faulted-sound address i j h k = record { answer = tt; within = record { source = h; destination = k } }
+  faulted-sound address i j h k = record {
+    answer = record { most = omega arith; serves = λ e. true≢false (sym e); value = λ f. absurd (f refl) };
+    within = record { source = h; destination = k };
+  }
 
 module _ {vl : ℕ} {Writes : ℕ → Type 0} {registers : List ℕ} where
   sound-left :
@@ -64,41 +69,43 @@ module _ {vl : ℕ} {Writes : ℕ → Type 0} {registers : List ℕ} where
       UnitSound vl Writes registers (left ran after memory)
   sound-left r k memory = record { answer = r .answer; within = r .within; kept = k }
 
-module _ (p : OperationPlan) (position : Position) (i : ℕ) (h : i < p .vl) where
-  go-on-sound : RanSound (p .vl) (goOn p position i)
+module _ (vl : ℕ) (position : Position) (i : ℕ) (h : i < vl) where
+  go-on-sound : RanSound vl (goOn vl position i)
   unfolding goOn
   go-on-sound =
-      by-cond (RanSound (p .vl)) (ltb (i + 1) (p .vl))
-      (λ e. let l = ltb-true (i + 1) (p .vl) e in onward-sound (p .vl) position (i + 1) (i + 1) l l)
-      (λ e. ended-sound (p .vl) position 4 (omega arith))
+      by-cond (RanSound vl) (ltb (i + 1) vl)
+      (λ e. let l = ltb-true (i + 1) vl e in onward-sound vl position (i + 1) (i + 1) l l)
+      (λ e. ended-sound vl position 4 (omega arith))
 
-  after-on-sound : RanSound (p .vl) (afterOn p position i)
+  after-on-sound : (vector : Bool) → RanSound vl (afterOn vl vector position i)
   unfolding afterOn
-  after-on-sound =
-      by-cond (RanSound (p .vl)) (p .destination .vector) (λ e. go-on-sound)
-      (λ e. ended-sound (p .vl) position 4 (omega arith))
+  after-on-sound vector = by-cond (RanSound vl) vector (λ e. go-on-sound) (λ e. ended-sound vl position 4 (omega arith))
+
+position-sound : (p : OperationPlan) (position : Position) (i : ℕ) → i < p .vl → RanSound (p .vl) (positionAfter p position i)
+unfolding positionAfter
+position-sound p position i h =
+    by-cond (RanSound (p .vl)) (isOn (p .mask) i)
+    (λ e. after-on-sound (p .vl) position i h (p .destination .vector)) (λ e. go-on-sound (p .vl) position i h)
+
+registers-sound :
+    (p : OperationPlan) (Writes : ℕ → Type 0) (registers : List ℕ) (i : ℕ) → Writes (registerAt (p .destination) i) →
+    RegistersKept Writes registers (registersAfter p registers i)
+unfolding registersAfter
+registers-sound p Writes registers i w =
+    let to = registerAt (p .destination) i in
+    by-cond (RegistersKept Writes registers) (isOn (p .mask) i) (λ e. one-written registers to (elementOf p registers i) w)
+    (λ e.
+    by-cond (RegistersKept Writes registers) (p .mask .zeroing) (λ f. one-written registers to 0 w)
+    (λ f. unwritten registers))
 
 pub operation-sound :
     (p : OperationPlan) (Writes : ℕ → Type 0) (c : Context) → c .position .destination < p .vl →
     ((i : ℕ) → i < p .vl → Writes (registerAt (p .destination) i)) →
     UnitSound (p .vl) Writes (c .registers) (operationUnit p c)
-unfolding operationUnit positionDone
+unfolding operationUnit
 operation-sound p Writes c h writes =
     let i = c .position .destination in
-    by-cond (UnitSound (p .vl) Writes (c .registers)) (isOn (p .mask) i)
-    (λ e.
-    sound-left (after-on-sound p (c .position) i h)
-    (one-written (c .registers) (registerAt (p .destination) i) (elementOf p (c .registers) i) (writes i h))
-    (c .memory))
-    (λ e.
-    sound-left (go-on-sound p (c .position) i h)
-    (by-cond (RegistersKept Writes (c .registers)) (p .mask .zeroing)
-    (λ f. one-written (c .registers) (registerAt (p .destination) i) 0 (writes i h)) (λ f. unwritten (c .registers)))
-    (c .memory))
-
-pub or-false : (a b : Bool) → (a || b) ≡ false → (a ≡ false) × (b ≡ false)
-or-false true b e = absurd (true≢false e)
-or-false false b e = (refl, e)
+    sound-left (position-sound p (c .position) i h) (registers-sound p Writes (c .registers) i (writes i h)) (c .memory)
 
 module _ (s : Sides) (bytes : ℕ) (position : Position) (i j : ℕ) where
   after-pair-sound : 0 < s .vl → RanSound (s .vl) (afterPair s bytes position i j)

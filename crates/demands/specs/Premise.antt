@@ -1,5 +1,5 @@
 -- The premise of demand 3: no mask register set for an operand lies among the registers that the instruction may write.
-use Prim.Native.Nat.{ℕ, _-_, _≤_}
+use Prim.Native.Nat.{ℕ, _<_}
 use mathlib.Core.Path.{_≡_}
 use mathlib.Core.List.{List, [], _∷_}
 use Rattle.decode.specs.declared.decoded.Named.{Named}
@@ -27,14 +27,15 @@ MaskSet r n = (n .predicate ≡ 0 → ⊥) × (predicateEntry (n .predicate) .ma
 abbrev pub IsMask : Decoded → ℕ → Type 0
 IsMask word r = Some (MaskSet r) (operandsOf word)
 
--- the real register of an operand and, for a vector, the VL - 1 above it
-abbrev pub Spans : ℕ → ℕ → Named → Type 0
-Spans vl r n =
-    (placeOf (n .operand) .register ≤ r) × (r ≤ registerAt (placeOf (n .operand)) (vl - 1))
+-- some position below VL has register r
+pub record Reaches (vl r : ℕ) (n : Named) : Type 0 where
+  pub position : ℕ
+  pub below : position < vl
+  pub register : registerAt (placeOf n) position ≡ r
 
 -- the registers that an instruction may write
 abbrev pub MayWrite : ℕ → Decoded → ℕ → Type 0
-MayWrite vl word r = Some (Spans vl r) (destinationsOf word)
+MayWrite vl word r = Some (Reaches vl r) (destinationsOf word)
 
 -- taken from the machine at the start
 abbrev pub Apart : ℕ → Machine → Type 0

@@ -23,7 +23,7 @@ SomeOtherWidth word = Some OtherWidth (operandsOf word)
 
 -- a vector operand's register + VL - 1 is above 127
 abbrev pub PastVector : ℕ → Named → Type 0
-PastVector vl n = (placeOf (n .operand) .vector ≡ true) × (128 ≤ placeOf (n .operand) .register + (vl - 1))
+PastVector vl n = (placeOf n .vector ≡ true) × (128 ≤ placeOf n .register + (vl - 1))
 
 abbrev pub SomePastVector : Machine → Decoded → Type 0
 SomePastVector m word = Some (PastVector (m .state .vl)) (operandsOf word)

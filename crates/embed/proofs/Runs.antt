@@ -5,20 +5,28 @@ use mathlib.Core.Bool.{true, false}
 use Rattle.answers.specs.declared.Answer.{Answer}
 use Rattle.answers.specs.declared.Answer.the-variants.{OutOfShape}
 use Rattle.pausable.specs.Outcome.{Outcome}
-use Rattle.walk.specs.Context.{Context}
+use Rattle.decode.specs.declared.decoded.Decoded.{Decoded}
+use Rattle.decode.specs.Decoding.{decoded}
+use Rattle.state_word.specs.declared.State.{State}
+use Rattle.walk.specs.Context.{Context, context}
 use Rattle.handler.specs.Unit.{handled}
 use Rattle.machine.specs.Shape.{inShape}
-use Rattle.machine.specs.Run.{System, contextOf, withContext, wordOn, run}
-use Rattle.machine.proofs.Placed.{placed, run-placed, run-refused}
+use Rattle.machine.specs.Run.{System, withContext, run}
+use Rattle.machine.proofs.Handled.{putBack, run-handled, run-refused}
 use Rattle.lent.specs.Leaves.{Says, Leaves}
 use Rattle.lent.proofs.Leaves.{leaves}
 
 module _ (word n : ℕ) (s : System) {a v : ℕ} where
   pub leaves-refused : inShape (s .machine) ≡ false → Says OutOfShape a v → Leaves (run word n s) a v s
-  leaves-refused h told = leaves (run-refused word n s h) told
+  leaves-refused h said = leaves (run-refused word n s h) said
 
+  -- by the state as it was read, and the word as it was decoded
   pub leaves-run :
-      (o : Outcome Answer Context) → inShape (s .machine) ≡ true →
-      o ≡ handled (s .machine .state .vl) (wordOn word (s .machine)) n (contextOf s) → Says (o .answer) a v →
-      Leaves (run word n s) a v (withContext s (o .state))
-  leaves-run o h e told = leaves (ap (placed s) e ∙ sym (run-placed word n s h)) told
+      (read : State) (d : Decoded) (o : Outcome Answer Context) → inShape (s .machine) ≡ true → read ≡ s .machine .state →
+      d ≡ decoded word (read .cfg) (s .machine .«register_table») (s .machine .«predicate_table») →
+      o ≡ handled (read .vl) d n
+      (context (s .machine .registers) (s .memory)
+      (record { pc = s .machine .pc; source = read .source; destination = read .destination })) →
+      Says (o .answer) a v → Leaves (run word n s) a v (withContext s (o .state))
+  leaves-run read d o h same e ran said =
+      leaves (ap (putBack s) (ran ∙ rw (e, same)) ∙ sym (run-handled word n s h)) said

@@ -1,33 +1,41 @@
 // The calls that read one thing out. They change nothing, and refuse 6 and 8 only.
-ghost use Rattle.machine.specs.Reading.{readVl, readMvl, readCfg, readPc, readStateWord, readRegister, readRegisterEntry, readPredicateEntry};
-ghost use Rattle.lent.specs.Layout.{machineOf};
+ghost use Rattle.machine.specs.Reading.{readVl, readMvl, readCfg, readPc, readStateWord};
+ghost use Rattle.machine.specs.Reading.{readRegister, readRegisterEntry, readPredicateEntry};
+ghost use Rattle.lent.specs.Layout.{machineIn};
 ghost use Rattle.lent.specs.Leaves.{Replies};
+use answers::Answer;
 use lent::CFG;
+use lent::CONTROL_WORDS;
 use lent::MVL;
 use lent::PC;
 use lent::VL;
-use lent::reading::read;
-use lent::reading::read_at;
-use lent::reading::read_entry;
-use lent::reading::register_at;
+use lent::guarded;
+use lent::register_at;
 use lent::state_of;
-use machine::Machine;
+use registers::REGISTERS;
+use tables::ENTRIES;
+use tables::entry::entry_at;
 
 #[no_mangle]
 pub extern "C" fn simplev_read_vl<'a>(
-    registers: &'a [u64; 128],
-    control: &'a [u64; 6],
-    register_table: &'a [u16; 16],
-    predicate_table: &'a [u16; 16],
+    registers: &'a [u64; REGISTERS],
+    control: &'a [u64; CONTROL_WORDS],
+    register_table: &'a [u16; ENTRIES],
+    predicate_table: &'a [u16; ENTRIES],
     value: &mut u64,
 ) -> u32
-    ensures { λ r. ⌜ Replies (readVl (machineOf (now (registers .entry)) (now (control .entry)) (now («register_table» .entry)) (now («predicate_table» .entry)))) r (now (value .exit)) (machineOf (now (registers .entry)) (now (control .entry)) (now («register_table» .entry)) (now («predicate_table» .entry))) ⌝ }
+    ensures { λ r. ⌜
+        (let m = machineIn (registers .entry) (control .entry) («register_table» .entry) («predicate_table» .entry) in
+        Replies (readVl m) r (now (value .exit)) m)
+        ⌝ }
 {
-    read(
+    guarded(
         registers,
         control,
         register_table,
         predicate_table,
+        true,
+        Answer::Done(0),
         control[VL],
         value,
     )
@@ -35,19 +43,24 @@ pub extern "C" fn simplev_read_vl<'a>(
 
 #[no_mangle]
 pub extern "C" fn simplev_read_mvl<'a>(
-    registers: &'a [u64; 128],
-    control: &'a [u64; 6],
-    register_table: &'a [u16; 16],
-    predicate_table: &'a [u16; 16],
+    registers: &'a [u64; REGISTERS],
+    control: &'a [u64; CONTROL_WORDS],
+    register_table: &'a [u16; ENTRIES],
+    predicate_table: &'a [u16; ENTRIES],
     value: &mut u64,
 ) -> u32
-    ensures { λ r. ⌜ Replies (readMvl (machineOf (now (registers .entry)) (now (control .entry)) (now («register_table» .entry)) (now («predicate_table» .entry)))) r (now (value .exit)) (machineOf (now (registers .entry)) (now (control .entry)) (now («register_table» .entry)) (now («predicate_table» .entry))) ⌝ }
+    ensures { λ r. ⌜
+        (let m = machineIn (registers .entry) (control .entry) («register_table» .entry) («predicate_table» .entry) in
+        Replies (readMvl m) r (now (value .exit)) m)
+        ⌝ }
 {
-    read(
+    guarded(
         registers,
         control,
         register_table,
         predicate_table,
+        true,
+        Answer::Done(0),
         control[MVL],
         value,
     )
@@ -55,19 +68,24 @@ pub extern "C" fn simplev_read_mvl<'a>(
 
 #[no_mangle]
 pub extern "C" fn simplev_read_cfg<'a>(
-    registers: &'a [u64; 128],
-    control: &'a [u64; 6],
-    register_table: &'a [u16; 16],
-    predicate_table: &'a [u16; 16],
+    registers: &'a [u64; REGISTERS],
+    control: &'a [u64; CONTROL_WORDS],
+    register_table: &'a [u16; ENTRIES],
+    predicate_table: &'a [u16; ENTRIES],
     value: &mut u64,
 ) -> u32
-    ensures { λ r. ⌜ Replies (readCfg (machineOf (now (registers .entry)) (now (control .entry)) (now («register_table» .entry)) (now («predicate_table» .entry)))) r (now (value .exit)) (machineOf (now (registers .entry)) (now (control .entry)) (now («register_table» .entry)) (now («predicate_table» .entry))) ⌝ }
+    ensures { λ r. ⌜
+        (let m = machineIn (registers .entry) (control .entry) («register_table» .entry) («predicate_table» .entry) in
+        Replies (readCfg m) r (now (value .exit)) m)
+        ⌝ }
 {
-    read(
+    guarded(
         registers,
         control,
         register_table,
         predicate_table,
+        true,
+        Answer::Done(0),
         control[CFG],
         value,
     )
@@ -75,19 +93,24 @@ pub extern "C" fn simplev_read_cfg<'a>(
 
 #[no_mangle]
 pub extern "C" fn simplev_read_pc<'a>(
-    registers: &'a [u64; 128],
-    control: &'a [u64; 6],
-    register_table: &'a [u16; 16],
-    predicate_table: &'a [u16; 16],
+    registers: &'a [u64; REGISTERS],
+    control: &'a [u64; CONTROL_WORDS],
+    register_table: &'a [u16; ENTRIES],
+    predicate_table: &'a [u16; ENTRIES],
     value: &mut u64,
 ) -> u32
-    ensures { λ r. ⌜ Replies (readPc (machineOf (now (registers .entry)) (now (control .entry)) (now («register_table» .entry)) (now («predicate_table» .entry)))) r (now (value .exit)) (machineOf (now (registers .entry)) (now (control .entry)) (now («register_table» .entry)) (now («predicate_table» .entry))) ⌝ }
+    ensures { λ r. ⌜
+        (let m = machineIn (registers .entry) (control .entry) («register_table» .entry) («predicate_table» .entry) in
+        Replies (readPc m) r (now (value .exit)) m)
+        ⌝ }
 {
-    read(
+    guarded(
         registers,
         control,
         register_table,
         predicate_table,
+        true,
+        Answer::Done(0),
         control[PC],
         value,
     )
@@ -95,20 +118,25 @@ pub extern "C" fn simplev_read_pc<'a>(
 
 #[no_mangle]
 pub extern "C" fn simplev_read_state_word<'a>(
-    registers: &'a [u64; 128],
-    control: &'a [u64; 6],
-    register_table: &'a [u16; 16],
-    predicate_table: &'a [u16; 16],
+    registers: &'a [u64; REGISTERS],
+    control: &'a [u64; CONTROL_WORDS],
+    register_table: &'a [u16; ENTRIES],
+    predicate_table: &'a [u16; ENTRIES],
     value: &mut u64,
 ) -> u32
-    ensures { λ r. ⌜ Replies (readStateWord (machineOf (now (registers .entry)) (now (control .entry)) (now («register_table» .entry)) (now («predicate_table» .entry)))) r (now (value .exit)) (machineOf (now (registers .entry)) (now (control .entry)) (now («register_table» .entry)) (now («predicate_table» .entry))) ⌝ }
+    ensures { λ r. ⌜
+        (let m = machineIn (registers .entry) (control .entry) («register_table» .entry) («predicate_table» .entry) in
+        Replies (readStateWord m) r (now (value .exit)) m)
+        ⌝ }
 {
     let state = state_of(control);
-    read(
+    guarded(
         registers,
         control,
         register_table,
         predicate_table,
+        true,
+        Answer::Done(0),
         state.word() as u64,
         value,
     )
@@ -116,22 +144,26 @@ pub extern "C" fn simplev_read_state_word<'a>(
 
 #[no_mangle]
 pub extern "C" fn simplev_read_register<'a>(
-    registers: &'a [u64; 128],
-    control: &'a [u64; 6],
-    register_table: &'a [u16; 16],
-    predicate_table: &'a [u16; 16],
+    registers: &'a [u64; REGISTERS],
+    control: &'a [u64; CONTROL_WORDS],
+    register_table: &'a [u16; ENTRIES],
+    predicate_table: &'a [u16; ENTRIES],
     index: u32,
     value: &mut u64,
 ) -> u32
-    ensures { λ r. ⌜ Replies (readRegister (machineOf (now (registers .entry)) (now (control .entry)) (now («register_table» .entry)) (now («predicate_table» .entry))) index) r (now (value .exit)) (machineOf (now (registers .entry)) (now (control .entry)) (now («register_table» .entry)) (now («predicate_table» .entry))) ⌝ }
+    ensures { λ r. ⌜
+        (let m = machineIn (registers .entry) (control .entry) («register_table» .entry) («predicate_table» .entry) in
+        Replies (readRegister m index) r (now (value .exit)) m)
+        ⌝ }
 {
     let register = register_at(registers, index);
-    read_at(
+    guarded(
         registers,
         control,
         register_table,
         predicate_table,
-        (index as usize) < Machine::REGISTERS,
+        (index as usize) < REGISTERS,
+        Answer::Done(0),
         register,
         value,
     )
@@ -139,44 +171,56 @@ pub extern "C" fn simplev_read_register<'a>(
 
 #[no_mangle]
 pub extern "C" fn simplev_read_register_entry<'a>(
-    registers: &'a [u64; 128],
-    control: &'a [u64; 6],
-    register_table: &'a [u16; 16],
-    predicate_table: &'a [u16; 16],
+    registers: &'a [u64; REGISTERS],
+    control: &'a [u64; CONTROL_WORDS],
+    register_table: &'a [u16; ENTRIES],
+    predicate_table: &'a [u16; ENTRIES],
     index: u32,
     value: &mut u64,
 ) -> u32
-    ensures { λ r. ⌜ Replies (readRegisterEntry (machineOf (now (registers .entry)) (now (control .entry)) (now («register_table» .entry)) (now («predicate_table» .entry))) index) r (now (value .exit)) (machineOf (now (registers .entry)) (now (control .entry)) (now («register_table» .entry)) (now («predicate_table» .entry))) ⌝ }
+    ensures { λ r. ⌜
+        (let m = machineIn (registers .entry) (control .entry) («register_table» .entry) («predicate_table» .entry) in
+        Replies (readRegisterEntry m index) r (now (value .exit)) m)
+        ⌝ }
 {
-    read_entry(
+    let entries = *register_table;
+    let entry = entry_at(entries, index);
+    guarded(
         registers,
         control,
         register_table,
         predicate_table,
-        register_table,
-        index,
+        (index as usize) < ENTRIES,
+        Answer::Done(0),
+        entry as u64,
         value,
     )
 }
 
 #[no_mangle]
 pub extern "C" fn simplev_read_predicate_entry<'a>(
-    registers: &'a [u64; 128],
-    control: &'a [u64; 6],
-    register_table: &'a [u16; 16],
-    predicate_table: &'a [u16; 16],
+    registers: &'a [u64; REGISTERS],
+    control: &'a [u64; CONTROL_WORDS],
+    register_table: &'a [u16; ENTRIES],
+    predicate_table: &'a [u16; ENTRIES],
     index: u32,
     value: &mut u64,
 ) -> u32
-    ensures { λ r. ⌜ Replies (readPredicateEntry (machineOf (now (registers .entry)) (now (control .entry)) (now («register_table» .entry)) (now («predicate_table» .entry))) index) r (now (value .exit)) (machineOf (now (registers .entry)) (now (control .entry)) (now («register_table» .entry)) (now («predicate_table» .entry))) ⌝ }
+    ensures { λ r. ⌜
+        (let m = machineIn (registers .entry) (control .entry) («register_table» .entry) («predicate_table» .entry) in
+        Replies (readPredicateEntry m index) r (now (value .exit)) m)
+        ⌝ }
 {
-    read_entry(
+    let entries = *predicate_table;
+    let entry = entry_at(entries, index);
+    guarded(
         registers,
         control,
         register_table,
         predicate_table,
-        predicate_table,
-        index,
+        (index as usize) < ENTRIES,
+        Answer::Done(0),
+        entry as u64,
         value,
     )
 }

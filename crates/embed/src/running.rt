@@ -2,50 +2,61 @@
 ghost use mathlib.Core.Path.{_≡_};
 ghost use Rattle.machine.specs.Shape.{freshMachine};
 ghost use Rattle.machine.specs.Run.{system, run, step};
-ghost use Rattle.lent.specs.Layout.{machineOf};
+ghost use Rattle.lent.specs.Layout.{machineIn};
 ghost use Rattle.lent.specs.Leaves.{Leaves};
 use answers::Answer;
+use decode::decode;
 use lent::CFG;
+use lent::CONTROL_WORDS;
 use lent::MVL;
 use lent::PC;
 use lent::VL;
 use lent::in_shape;
 use lent::state_of;
-use lent::tell;
+use lent::write_answer;
+use registers::REGISTERS;
+use tables::ENTRIES;
 use walk::position::Position;
 
 // MVL 1, VL 1, CFG 24 and all else zero.
 #[no_mangle]
 pub extern "C" fn simplev_fresh(
-    registers: &mut [u64; 128],
-    control: &mut [u64; 6],
-    register_table: &mut [u16; 16],
-    predicate_table: &mut [u16; 16],
+    registers: &mut [u64; REGISTERS],
+    control: &mut [u64; CONTROL_WORDS],
+    register_table: &mut [u16; ENTRIES],
+    predicate_table: &mut [u16; ENTRIES],
 )
-    ensures { λ r. ⌜ machineOf (now (registers .exit)) (now (control .exit)) (now («register_table» .exit)) (now («predicate_table» .exit)) ≡ freshMachine ⌝ }
+    ensures { λ r. ⌜
+        machineIn (registers .exit) (control .exit) («register_table» .exit) («predicate_table» .exit) ≡ freshMachine
+        ⌝ }
 {
-    *registers = [0; 128];
+    *registers = [0; REGISTERS];
     *control = [0, 1, 1, 24, 0, 0];
-    *register_table = [0; 16];
-    *predicate_table = [0; 16];
+    *register_table = [0; ENTRIES];
+    *predicate_table = [0; ENTRIES];
 }
 
 // Runs a word for at most as many units as allowed. The registers and the memory are worked on in place.
 #[no_mangle]
 pub extern "C" fn simplev_run<'a>(
-    registers: &mut [u64; 128],
-    control: &mut [u64; 6],
-    register_table: &'a [u16; 16],
-    predicate_table: &'a [u16; 16],
+    registers: &mut [u64; REGISTERS],
+    control: &mut [u64; CONTROL_WORDS],
+    register_table: &'a [u16; ENTRIES],
+    predicate_table: &'a [u16; ENTRIES],
     word: u32,
     allowance: u16,
     memory: &mut [u8],
     address: &mut u64,
 ) -> u32
-    ensures { λ r. ⌜ Leaves (run word allowance (system (machineOf (now (registers .entry)) (now (control .entry)) (now («register_table» .entry)) (now («predicate_table» .entry))) (now (memory .entry)))) r (now (address .exit)) (system (machineOf (now (registers .exit)) (now (control .exit)) (now («register_table» .entry)) (now («predicate_table» .entry))) (now (memory .exit))) ⌝ }
+    ensures { λ r. ⌜
+        (let m = machineIn (registers .entry) (control .entry) («register_table» .entry) («predicate_table» .entry) in
+        let after = machineIn (registers .exit) (control .exit) («register_table» .entry) («predicate_table» .entry) in
+        Leaves (run word allowance (system m (now (memory .entry)))) r (now (address .exit))
+        (system after (now (memory .exit))))
+        ⌝ }
 {
     if !in_shape(registers, control, register_table, predicate_table) {
-        return tell(Answer::OutOfShape, address);
+        return write_answer(Answer::OutOfShape, address);
     }
     let state = state_of(control);
     let position = Position {
@@ -53,17 +64,8 @@ pub extern "C" fn simplev_run<'a>(
         source: state.source,
         destination: state.destination,
     };
-    let ran = handler::run(
-        word,
-        state.vl,
-        state.cfg,
-        register_table,
-        predicate_table,
-        position,
-        allowance,
-        registers,
-        memory,
-    );
+    let decoded = decode(word, state.cfg, register_table, predicate_table);
+    let ran = handler::run(decoded, state.vl, position, allowance, registers, memory);
     let after = ran.position;
     *control = [
         after.pc,
@@ -74,21 +76,26 @@ pub extern "C" fn simplev_run<'a>(
         after.destination as u64,
     ];
     let answer = ran.answer;
-    tell(answer, address)
+    write_answer(answer, address)
 }
 
 // One unit.
 #[no_mangle]
 pub extern "C" fn simplev_step<'a>(
-    registers: &mut [u64; 128],
-    control: &mut [u64; 6],
-    register_table: &'a [u16; 16],
-    predicate_table: &'a [u16; 16],
+    registers: &mut [u64; REGISTERS],
+    control: &mut [u64; CONTROL_WORDS],
+    register_table: &'a [u16; ENTRIES],
+    predicate_table: &'a [u16; ENTRIES],
     word: u32,
     memory: &mut [u8],
     address: &mut u64,
 ) -> u32
-    ensures { λ r. ⌜ Leaves (step word (system (machineOf (now (registers .entry)) (now (control .entry)) (now («register_table» .entry)) (now («predicate_table» .entry))) (now (memory .entry)))) r (now (address .exit)) (system (machineOf (now (registers .exit)) (now (control .exit)) (now («register_table» .entry)) (now («predicate_table» .entry))) (now (memory .exit))) ⌝ }
+    ensures { λ r. ⌜
+        (let m = machineIn (registers .entry) (control .entry) («register_table» .entry) («predicate_table» .entry) in
+        let after = machineIn (registers .exit) (control .exit) («register_table» .entry) («predicate_table» .entry) in
+        Leaves (step word (system m (now (memory .entry)))) r (now (address .exit))
+        (system after (now (memory .exit))))
+        ⌝ }
 {
     simplev_run(
         registers,

@@ -1,37 +1,45 @@
-// The calls that set one thing, in place. Refusals come in the order 6, 8, 7.
-ghost use Rattle.machine.specs.Setting.{setVl, setVlImmediate, setMvl, setCfg, setStateWord, setPc, setRegister, setRegisterEntry, setPredicateEntry};
-ghost use Rattle.lent.specs.Layout.{machineOf};
+// The calls that set one thing, in place. Refusals come in the order 6, 8, then the call's own.
+ghost use Rattle.machine.specs.Setting.{setVl, setVlImmediate, setMvl, setCfg, setStateWord, setPc};
+ghost use Rattle.machine.specs.Setting.{setRegister, setRegisterEntry, setPredicateEntry};
+ghost use Rattle.lent.specs.Layout.{machineIn};
 ghost use Rattle.lent.specs.Leaves.{Replies};
 use answers::Answer;
+use answers::valid;
+use lent::CONTROL_WORDS;
 use lent::PC;
-use lent::judged;
-use lent::setting::put_entry;
+use lent::guarded;
 use lent::setting::set_control;
 use lent::setting::set_vl;
 use lent::state_of;
-use lent::tell;
 use machine::Machine;
+use registers::REGISTERS;
 use state_word::State;
 use state_word::good_word;
+use tables::ENTRIES;
+use tables::entry::with_entry;
 
 // Plain form: n from 1.
 #[no_mangle]
 pub extern "C" fn simplev_set_vl<'a>(
-    registers: &'a [u64; 128],
-    control: &mut [u64; 6],
-    register_table: &'a [u16; 16],
-    predicate_table: &'a [u16; 16],
+    registers: &'a [u64; REGISTERS],
+    control: &mut [u64; CONTROL_WORDS],
+    register_table: &'a [u16; ENTRIES],
+    predicate_table: &'a [u16; ENTRIES],
     n: u64,
     value: &mut u64,
 ) -> u32
-    ensures { λ r. ⌜ Replies (setVl (machineOf (now (registers .entry)) (now (control .entry)) (now («register_table» .entry)) (now («predicate_table» .entry))) n) r (now (value .exit)) (machineOf (now (registers .entry)) (now (control .exit)) (now («register_table» .entry)) (now («predicate_table» .entry))) ⌝ }
+    ensures { λ r. ⌜
+        (let m = machineIn (registers .entry) (control .entry) («register_table» .entry) («predicate_table» .entry) in
+        let after = machineIn (registers .entry) (control .exit) («register_table» .entry) («predicate_table» .entry) in
+        Replies (setVl m n) r (now (value .exit)) after)
+        ⌝ }
 {
     set_vl(
         registers,
         control,
         register_table,
         predicate_table,
-        1 <= n,
+        valid(1 <= n),
         n,
         value,
     )
@@ -40,21 +48,25 @@ pub extern "C" fn simplev_set_vl<'a>(
 // Immediate form: n from 0 to 31 stands for n + 1.
 #[no_mangle]
 pub extern "C" fn simplev_set_vl_immediate<'a>(
-    registers: &'a [u64; 128],
-    control: &mut [u64; 6],
-    register_table: &'a [u16; 16],
-    predicate_table: &'a [u16; 16],
+    registers: &'a [u64; REGISTERS],
+    control: &mut [u64; CONTROL_WORDS],
+    register_table: &'a [u16; ENTRIES],
+    predicate_table: &'a [u16; ENTRIES],
     n: u32,
     value: &mut u64,
 ) -> u32
-    ensures { λ r. ⌜ Replies (setVlImmediate (machineOf (now (registers .entry)) (now (control .entry)) (now («register_table» .entry)) (now («predicate_table» .entry))) n) r (now (value .exit)) (machineOf (now (registers .entry)) (now (control .exit)) (now («register_table» .entry)) (now («predicate_table» .entry))) ⌝ }
+    ensures { λ r. ⌜
+        (let m = machineIn (registers .entry) (control .entry) («register_table» .entry) («predicate_table» .entry) in
+        let after = machineIn (registers .entry) (control .exit) («register_table» .entry) («predicate_table» .entry) in
+        Replies (setVlImmediate m n) r (now (value .exit)) after)
+        ⌝ }
 {
     set_vl(
         registers,
         control,
         register_table,
         predicate_table,
-        n <= 31,
+        valid(n <= 31),
         n as u64 + 1,
         value,
     )
@@ -63,14 +75,18 @@ pub extern "C" fn simplev_set_vl_immediate<'a>(
 // VL is cut to the new MVL, and both offsets become 0.
 #[no_mangle]
 pub extern "C" fn simplev_set_mvl<'a>(
-    registers: &'a [u64; 128],
-    control: &mut [u64; 6],
-    register_table: &'a [u16; 16],
-    predicate_table: &'a [u16; 16],
+    registers: &'a [u64; REGISTERS],
+    control: &mut [u64; CONTROL_WORDS],
+    register_table: &'a [u16; ENTRIES],
+    predicate_table: &'a [u16; ENTRIES],
     n: u32,
     value: &mut u64,
 ) -> u32
-    ensures { λ r. ⌜ Replies (setMvl (machineOf (now (registers .entry)) (now (control .entry)) (now («register_table» .entry)) (now («predicate_table» .entry))) n) r (now (value .exit)) (machineOf (now (registers .entry)) (now (control .exit)) (now («register_table» .entry)) (now («predicate_table» .entry))) ⌝ }
+    ensures { λ r. ⌜
+        (let m = machineIn (registers .entry) (control .entry) («register_table» .entry) («predicate_table» .entry) in
+        let after = machineIn (registers .entry) (control .exit) («register_table» .entry) («predicate_table» .entry) in
+        Replies (setMvl m n) r (now (value .exit)) after)
+        ⌝ }
 {
     let pc = control[PC];
     let old = state_of(control);
@@ -80,7 +96,7 @@ pub extern "C" fn simplev_set_mvl<'a>(
         control,
         register_table,
         predicate_table,
-        (1 <= n) & (n <= Machine::ELEMENTS),
+        valid((1 <= n) & (n <= Machine::ELEMENTS)),
         pc,
         state,
         0,
@@ -91,14 +107,18 @@ pub extern "C" fn simplev_set_mvl<'a>(
 // 0 to 31.
 #[no_mangle]
 pub extern "C" fn simplev_set_cfg<'a>(
-    registers: &'a [u64; 128],
-    control: &mut [u64; 6],
-    register_table: &'a [u16; 16],
-    predicate_table: &'a [u16; 16],
+    registers: &'a [u64; REGISTERS],
+    control: &mut [u64; CONTROL_WORDS],
+    register_table: &'a [u16; ENTRIES],
+    predicate_table: &'a [u16; ENTRIES],
     n: u32,
     value: &mut u64,
 ) -> u32
-    ensures { λ r. ⌜ Replies (setCfg (machineOf (now (registers .entry)) (now (control .entry)) (now («register_table» .entry)) (now («predicate_table» .entry))) n) r (now (value .exit)) (machineOf (now (registers .entry)) (now (control .exit)) (now («register_table» .entry)) (now («predicate_table» .entry))) ⌝ }
+    ensures { λ r. ⌜
+        (let m = machineIn (registers .entry) (control .entry) («register_table» .entry) («predicate_table» .entry) in
+        let after = machineIn (registers .entry) (control .exit) («register_table» .entry) («predicate_table» .entry) in
+        Replies (setCfg m n) r (now (value .exit)) after)
+        ⌝ }
 {
     let pc = control[PC];
     let mut state = state_of(control);
@@ -108,7 +128,7 @@ pub extern "C" fn simplev_set_cfg<'a>(
         control,
         register_table,
         predicate_table,
-        n <= 31,
+        valid(n <= 31),
         pc,
         state,
         0,
@@ -119,14 +139,18 @@ pub extern "C" fn simplev_set_cfg<'a>(
 // MVL, VL cut to it, offsets and CFG in one word.
 #[no_mangle]
 pub extern "C" fn simplev_set_state_word<'a>(
-    registers: &'a [u64; 128],
-    control: &mut [u64; 6],
-    register_table: &'a [u16; 16],
-    predicate_table: &'a [u16; 16],
+    registers: &'a [u64; REGISTERS],
+    control: &mut [u64; CONTROL_WORDS],
+    register_table: &'a [u16; ENTRIES],
+    predicate_table: &'a [u16; ENTRIES],
     word: u32,
     value: &mut u64,
 ) -> u32
-    ensures { λ r. ⌜ Replies (setStateWord (machineOf (now (registers .entry)) (now (control .entry)) (now («register_table» .entry)) (now («predicate_table» .entry))) word) r (now (value .exit)) (machineOf (now (registers .entry)) (now (control .exit)) (now («register_table» .entry)) (now («predicate_table» .entry))) ⌝ }
+    ensures { λ r. ⌜
+        (let m = machineIn (registers .entry) (control .entry) («register_table» .entry) («predicate_table» .entry) in
+        let after = machineIn (registers .entry) (control .exit) («register_table» .entry) («predicate_table» .entry) in
+        Replies (setStateWord m word) r (now (value .exit)) after)
+        ⌝ }
 {
     let pc = control[PC];
     let state = State::of_word(word).cut();
@@ -135,7 +159,7 @@ pub extern "C" fn simplev_set_state_word<'a>(
         control,
         register_table,
         predicate_table,
-        good_word(word),
+        valid(good_word(word)),
         pc,
         state,
         0,
@@ -146,14 +170,18 @@ pub extern "C" fn simplev_set_state_word<'a>(
 // Every program counter is good.
 #[no_mangle]
 pub extern "C" fn simplev_set_pc<'a>(
-    registers: &'a [u64; 128],
-    control: &mut [u64; 6],
-    register_table: &'a [u16; 16],
-    predicate_table: &'a [u16; 16],
+    registers: &'a [u64; REGISTERS],
+    control: &mut [u64; CONTROL_WORDS],
+    register_table: &'a [u16; ENTRIES],
+    predicate_table: &'a [u16; ENTRIES],
     pc: u64,
     value: &mut u64,
 ) -> u32
-    ensures { λ r. ⌜ Replies (setPc (machineOf (now (registers .entry)) (now (control .entry)) (now («register_table» .entry)) (now («predicate_table» .entry))) pc) r (now (value .exit)) (machineOf (now (registers .entry)) (now (control .exit)) (now («register_table» .entry)) (now («predicate_table» .entry))) ⌝ }
+    ensures { λ r. ⌜
+        (let m = machineIn (registers .entry) (control .entry) («register_table» .entry) («predicate_table» .entry) in
+        let after = machineIn (registers .entry) (control .exit) («register_table» .entry) («predicate_table» .entry) in
+        Replies (setPc m pc) r (now (value .exit)) after)
+        ⌝ }
 {
     let state = state_of(control);
     set_control(
@@ -161,7 +189,7 @@ pub extern "C" fn simplev_set_pc<'a>(
         control,
         register_table,
         predicate_table,
-        true,
+        Answer::Done(0),
         pc,
         state,
         0,
@@ -172,83 +200,103 @@ pub extern "C" fn simplev_set_pc<'a>(
 // A write to register 0 is accepted, and vanishes.
 #[no_mangle]
 pub extern "C" fn simplev_set_register<'a>(
-    registers: &mut [u64; 128],
-    control: &'a [u64; 6],
-    register_table: &'a [u16; 16],
-    predicate_table: &'a [u16; 16],
+    registers: &mut [u64; REGISTERS],
+    control: &'a [u64; CONTROL_WORDS],
+    register_table: &'a [u16; ENTRIES],
+    predicate_table: &'a [u16; ENTRIES],
     index: u32,
     value_in: u64,
     value: &mut u64,
 ) -> u32
-    ensures { λ r. ⌜ Replies (setRegister (machineOf (now (registers .entry)) (now (control .entry)) (now («register_table» .entry)) (now («predicate_table» .entry))) index «value_in») r (now (value .exit)) (machineOf (now (registers .exit)) (now (control .entry)) (now («register_table» .entry)) (now («predicate_table» .entry))) ⌝ }
+    ensures { λ r. ⌜
+        (let m = machineIn (registers .entry) (control .entry) («register_table» .entry) («predicate_table» .entry) in
+        let after = machineIn (registers .exit) (control .entry) («register_table» .entry) («predicate_table» .entry) in
+        Replies (setRegister m index «value_in») r (now (value .exit)) after)
+        ⌝ }
 {
-    let verdict = judged(
+    let answer = guarded(
         registers,
         control,
         register_table,
         predicate_table,
-        (index as usize) < Machine::REGISTERS,
-        true,
+        (index as usize) < REGISTERS,
+        Answer::Done(0),
+        0,
+        value,
     );
-    if !verdict.accepts() {
-        return tell(verdict, value);
+    if answer != 0 {
+        return answer;
     }
     registers::write(registers, index as usize, value_in);
-    tell(Answer::Done(0), value)
+    answer
 }
 
 // Every entry is good.
 #[no_mangle]
 pub extern "C" fn simplev_set_register_entry<'a>(
-    registers: &'a [u64; 128],
-    control: &'a [u64; 6],
-    register_table: &mut [u16; 16],
-    predicate_table: &'a [u16; 16],
+    registers: &'a [u64; REGISTERS],
+    control: &'a [u64; CONTROL_WORDS],
+    register_table: &mut [u16; ENTRIES],
+    predicate_table: &'a [u16; ENTRIES],
     index: u32,
     entry: u16,
     value: &mut u64,
 ) -> u32
-    ensures { λ r. ⌜ Replies (setRegisterEntry (machineOf (now (registers .entry)) (now (control .entry)) (now («register_table» .entry)) (now («predicate_table» .entry))) index entry) r (now (value .exit)) (machineOf (now (registers .entry)) (now (control .entry)) (now («register_table» .exit)) (now («predicate_table» .entry))) ⌝ }
+    ensures { λ r. ⌜
+        (let m = machineIn (registers .entry) (control .entry) («register_table» .entry) («predicate_table» .entry) in
+        let after = machineIn (registers .entry) (control .entry) («register_table» .exit) («predicate_table» .entry) in
+        Replies (setRegisterEntry m index entry) r (now (value .exit)) after)
+        ⌝ }
 {
-    let verdict = judged(
+    let answer = guarded(
         registers,
         control,
         register_table,
         predicate_table,
-        (index as usize) < Machine::ENTRIES,
-        true,
+        (index as usize) < ENTRIES,
+        Answer::Done(0),
+        0,
+        value,
     );
-    if !verdict.accepts() {
-        return tell(verdict, value);
+    if answer != 0 {
+        return answer;
     }
-    put_entry(register_table, index, entry);
-    tell(Answer::Done(0), value)
+    let old = *register_table;
+    *register_table = with_entry(old, index, entry);
+    answer
 }
 
 // An entry with bit 0 set is a bad value.
 #[no_mangle]
 pub extern "C" fn simplev_set_predicate_entry<'a>(
-    registers: &'a [u64; 128],
-    control: &'a [u64; 6],
-    register_table: &'a [u16; 16],
-    predicate_table: &mut [u16; 16],
+    registers: &'a [u64; REGISTERS],
+    control: &'a [u64; CONTROL_WORDS],
+    register_table: &'a [u16; ENTRIES],
+    predicate_table: &mut [u16; ENTRIES],
     index: u32,
     entry: u16,
     value: &mut u64,
 ) -> u32
-    ensures { λ r. ⌜ Replies (setPredicateEntry (machineOf (now (registers .entry)) (now (control .entry)) (now («register_table» .entry)) (now («predicate_table» .entry))) index entry) r (now (value .exit)) (machineOf (now (registers .entry)) (now (control .entry)) (now («register_table» .entry)) (now («predicate_table» .exit))) ⌝ }
+    ensures { λ r. ⌜
+        (let m = machineIn (registers .entry) (control .entry) («register_table» .entry) («predicate_table» .entry) in
+        let after = machineIn (registers .entry) (control .entry) («register_table» .entry) («predicate_table» .exit) in
+        Replies (setPredicateEntry m index entry) r (now (value .exit)) after)
+        ⌝ }
 {
-    let verdict = judged(
+    let answer = guarded(
         registers,
         control,
         register_table,
         predicate_table,
-        (index as usize) < Machine::ENTRIES,
-        !(entry % 2 == 1),
+        (index as usize) < ENTRIES,
+        valid(!(entry % 2 == 1)),
+        0,
+        value,
     );
-    if !verdict.accepts() {
-        return tell(verdict, value);
+    if answer != 0 {
+        return answer;
     }
-    put_entry(predicate_table, index, entry);
-    tell(Answer::Done(0), value)
+    let old = *predicate_table;
+    *predicate_table = with_entry(old, index, entry);
+    answer
 }

@@ -2,15 +2,18 @@
 use Prim.Native.Nat.{ℕ, _+_, _*_, _/_, _^_}
 use mathlib.Core.Path.{_≡_, refl}
 use mathlib.Core.Bool.{Bool, true, false, _&&_}
-use mathlib.Core.List.{List, [], _∷_, _++_}
+use mathlib.Core.List.{List, [], _∷_}
 use native.Mathlib.Omega.{arith}
 use borrow.Author.Tests.{eq-eqb, ne-eqb, eqb-true, eqb-false, ltb-true}
 use lib.Dec.{eqb, ltb}
 use mir.Syntax.{w32}
 use mir.Val.{Fits}
-use Rattle.tables.specs.Bits.{bits}
+use Rattle.bits.specs.Bits.{bits}
+use Rattle.bits.specs.Lists.{all}
+use Rattle.bits.proofs.Booleans.{and-left, and-right}
 use Rattle.encoding.specs.Fields.{opcode, funct3}
-use Rattle.encoding.specs.Listing.{Top, any, from, Row, funct3Rows, funct6Rows, funct7Rows, hasTop, fitsRow, firstForm, lookUp, listing, formOf}
+use Rattle.encoding.specs.Listing.{Top, any, from, Row, funct3Rows, funct6Rows, funct7Rows, listing}
+use Rattle.encoding.specs.Listing.{hasTop, fitsRow, firstForm, lookUp, formOf}
 
 -- two numbers are those asked for where one made of them is
 both :
@@ -30,27 +33,14 @@ both a b x y m n low high whole = by (eqb m n) refl
 abbrev pub inRange : Row → Bool
 inRange r = ltb (r .opcode) 128 && ltb (r .funct3) 8
 
-left : (a b : Bool) → a && b ≡ true → a ≡ true
-left true b e = refl
-left false b e = e
-
-right : (a b : Bool) → a && b ≡ true → b ≡ true
-right true b e = e
-right false b e = cc
-
--- whether all rows pass a test
-unfoldable pub every : (Row → Bool) → List Row → Bool
-every test [] = true
-every test (r ∷ rows) = test r && every test rows
-
 -- two tests that agree on the rows find the same
 same-first :
     (test other good : Row → Bool) → ((r : Row) → good r ≡ true → test r ≡ other r) →
-    (rows : List Row) → every good rows ≡ true → firstForm test rows ≡ firstForm other rows
-unfolding firstForm every
+    (rows : List Row) → all good rows ≡ true → firstForm test rows ≡ firstForm other rows
+unfolding firstForm all
 same-first test other good law [] e = refl
 same-first test other good law (r ∷ rows) e =
-    rw (law r (left (good r) (every good rows) e), same-first test other good law rows (right (good r) (every good rows) e))
+    rw (law r (and-left _ _ e), same-first test other good law rows (and-right (good r) (all good rows) e))
 
 -- funct3 and the opcode of a row, and of a word
 abbrev pub codeOf : Row → ℕ
@@ -78,8 +68,9 @@ code-fits :
     (word : ℕ) (r : Row) → inRange r ≡ true →
     eqb (opcode word) (r .opcode) && eqb (funct3 word) (r .funct3) ≡ eqb (code word) (codeOf r)
 code-fits word r e =
-    let o = ltb-true (r .opcode) 128 (left (ltb (r .opcode) 128) (ltb (r .funct3) 8) e) in
-    both (funct3 word) (opcode word) (r .funct3) (r .opcode) (code word) (codeOf r) (λ h. omega arith) (λ h. omega arith) (λ p q. omega arith)
+    let o = ltb-true (r .opcode) 128 (and-left (ltb (r .opcode) 128) (ltb (r .funct3) 8) e) in
+    both (funct3 word) (opcode word) (r .funct3) (r .opcode) (code word) (codeOf r)
+    (λ h. omega arith) (λ h. omega arith) (λ p q. omega arith)
 
 -- whether a row asks for bits 31..low
 abbrev asks : ℕ → Top → Bool
@@ -94,65 +85,36 @@ abbrev longRow : ℕ → Row → Bool
 longRow low r = inRange r && asks low (r .top)
 
 module _ (word n : ℕ) (e : n ≡ code word) where
-  pub by-code : (rows : List Row) → every inRange rows ≡ true → lookUp rows word ≡ firstForm (fitsCode word n) rows
+  pub by-code : (rows : List Row) → all inRange rows ≡ true → lookUp rows word ≡ firstForm (fitsCode word n) rows
   unfolding lookUp
-  by-code rows g = rw e (same-first (fitsRow word) (fitsCode word (code word)) inRange (λ r h. rw (code-fits word r h)) rows g)
+  by-code rows g =
+      rw e (same-first (fitsRow word) (fitsCode word (code word)) inRange (λ r h. rw (code-fits word r h)) rows g)
 
   pub listed : formOf word ≡ firstForm (fitsCode word n) listing
-  unfolding every funct3Rows funct6Rows funct7Rows
+  unfolding all funct3Rows funct6Rows funct7Rows
   listed = by-code listing refl
 
   module _ (low high : ℕ) (top : bits 31 low word ≡ high) where
     long-fits : (r : Row) → longRow low r ≡ true → fitsRow word r ≡ fitsLong (high * 1024 + n) r
     long-fits r h =
-        let g = left (inRange r) (asks low (r .top)) h in
-        let o = ltb-true (r .opcode) 128 (left (ltb (r .opcode) 128) (ltb (r .funct3) 8) g) in
-        let f = ltb-true (r .funct3) 8 (right (ltb (r .opcode) 128) (ltb (r .funct3) 8) g) in
-        rw (code-fits word r g, has-top word low (r .top) (right (inRange r) (asks low (r .top)) h), top, ← e)
-        (both high n (topOf (r .top)) (codeOf r) (high * 1024 + n) (longOf r) (λ h. omega arith) (λ h. omega arith) (λ p q. omega arith))
+        let g = and-left (inRange r) (asks low (r .top)) h in
+        let o = ltb-true (r .opcode) 128 (and-left (ltb (r .opcode) 128) (ltb (r .funct3) 8) g) in
+        let f = ltb-true (r .funct3) 8 (and-right (ltb (r .opcode) 128) (ltb (r .funct3) 8) g) in
+        rw (code-fits word r g, has-top word low (r .top) (and-right (inRange r) (asks low (r .top)) h), top, ← e)
+        (both high n (topOf (r .top)) (codeOf r) (high * 1024 + n) (longOf r)
+        (λ h. omega arith) (λ h. omega arith) (λ p q. omega arith))
 
     by-long :
-        (rows : List Row) → every (longRow low) rows ≡ true →
+        (rows : List Row) → all (longRow low) rows ≡ true →
         lookUp rows word ≡ firstForm (fitsLong (high * 1024 + n)) rows
     unfolding lookUp
     by-long rows g = same-first (fitsRow word) (fitsLong (high * 1024 + n)) (longRow low) long-fits rows g
 
   module _ (fits : Fits w32 word) where
     pub by-funct6 : lookUp funct6Rows word ≡ firstForm (fitsLong (word / 2 ^ 26 * 1024 + n)) funct6Rows
-    unfolding every funct6Rows
+    unfolding all funct6Rows
     by-funct6 = by-long 26 (word / 2 ^ 26) (omega arith) funct6Rows refl
 
     pub by-funct7 : lookUp funct7Rows word ≡ firstForm (fitsLong (word / 2 ^ 25 * 1024 + n)) funct7Rows
-    unfolding every funct7Rows
+    unfolding all funct7Rows
     by-funct7 = by-long 25 (word / 2 ^ 25) (omega arith) funct7Rows refl
-
--- What a match on a number leaves, where its arms are the codes of rows: the number is none of them.
-unfoldable pub Apart : Type 0 → ℕ → (Row → ℕ) → List Row → Type 0
-Apart before n key [] = before
-Apart before n key (r ∷ rows) = Apart (before × (n ≡ key r → ⊥)) n key rows
-
-apart-before : (before : Type 0) (n : ℕ) (key : Row → ℕ) (rows : List Row) → Apart before n key rows → before
-unfolding Apart
-apart-before before n key [] h = h
-apart-before before n key (r ∷ rows) h = apart-before (before × (n ≡ key r → ⊥)) n key rows h .0
-
--- such rows are passed by
-pass :
-    (test : Row → Bool) (n : ℕ) (key : Row → ℕ) → ((r : Row) → (n ≡ key r → ⊥) → test r ≡ false) →
-    (before : Type 0) (rows more : List Row) → Apart before n key rows →
-    firstForm test (rows ++ more) ≡ firstForm test more
-unfolding Apart firstForm
-pass test n key law before [] more h = refl
-pass test n key law before (r ∷ rows) more h =
-    let now = before × (n ≡ key r → ⊥) in
-    rw (law r (apart-before now n key rows h .1)) (pass test n key law now rows more h)
-
-pub pass-code :
-    (word n : ℕ) (before : Type 0) (rows more : List Row) → Apart before n codeOf rows →
-    firstForm (fitsCode word n) (rows ++ more) ≡ firstForm (fitsCode word n) more
-pass-code word n = pass (fitsCode word n) n codeOf (λ r h. rw (ne-eqb n (codeOf r) h))
-
-pub pass-long :
-    (n : ℕ) (before : Type 0) (rows more : List Row) → Apart before n longOf rows →
-    firstForm (fitsLong n) (rows ++ more) ≡ firstForm (fitsLong n) more
-pass-long n = pass (fitsLong n) n longOf (λ r h. ne-eqb n (longOf r) h)

@@ -3,11 +3,13 @@ use Prim.Native.Nat.{ℕ}
 use mathlib.Core.Bool.{Bool, true, cond, _&&_}
 use mathlib.Core.List.{List, [], _∷_, _++_}
 use lib.Dec.{eqb}
-use Rattle.tables.specs.Bits.{bits}
+use Rattle.bits.specs.Bits.{bits}
 use Rattle.scalar.specs.declared.width.Width.the-variants.{Byte, Half, Word, Double}
-use Rattle.scalar.specs.declared.operator.Operator.the-variants.{Add, Sub, Sll, Slt, Sltu, Xor, Srl, Sra, Or, And, Addw, Subw, Sllw, Srlw, Sraw}
+use Rattle.scalar.specs.declared.operator.Operator.the-variants.{Add, Sub, Sll, Slt, Sltu, Xor, Srl, Sra, Or, And}
+use Rattle.scalar.specs.declared.operator.Operator.the-variants.{Addw, Subw, Sllw, Srlw, Sraw}
 use Rattle.encoding.specs.declared.form.Form.{Form}
-use Rattle.encoding.specs.declared.form.Form.the-variants.{Register, Immediate, Shift, WordShift, Load, LoadUnsigned, Store, Unknown}
+use Rattle.encoding.specs.declared.form.Form.the-variants.{Register, Immediate, Shift, WordShift}
+use Rattle.encoding.specs.declared.form.Form.the-variants.{Load, LoadUnsigned, Store, Unknown}
 use Rattle.encoding.specs.Fields.{opcode, funct3}
 
 -- what a row asks of the highest bits of a word: nothing, or that bits 31..low are n

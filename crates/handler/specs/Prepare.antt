@@ -3,7 +3,8 @@ use Prim.Native.Nat.{ℕ}
 use mathlib.Core.Bool.{cond}
 use mathlib.Core.List.{List}
 use Rattle.answers.specs.declared.Answer.{Answer}
-use Rattle.answers.specs.declared.Answer.the-variants.{UnknownWord, PastRegisters, BadWidth}
+use Rattle.answers.specs.declared.Answer.the-variants.{UnknownWord}
+use Rattle.answers.specs.Answer.{accepts}
 use Rattle.decode.specs.declared.decoded.Decoded.{Decoded}
 use Rattle.decode.specs.declared.decoded.Decoded.the-variants.{Operation, Move, Load, Store, Unknown}
 use Rattle.pausable.specs.Call.{Prepared, refused, ready}
@@ -11,7 +12,7 @@ use Rattle.walk.specs.declared.operation.OperationPlan.{OperationPlan}
 use Rattle.transfers.specs.declared.sides.Sides.{Sides}
 use Rattle.accesses.specs.declared.loading.LoadPlan.{LoadPlan}
 use Rattle.accesses.specs.declared.storing.StorePlan.{StorePlan}
-use Rattle.plans.specs.Operands.{operandsOf, every, narrow, fitting}
+use Rattle.plans.specs.Operands.{checked}
 use Rattle.plans.specs.Plan.{operationPlan, movePlan, loadPlan, storePlan}
 
 pub data Plan : Type 0 where
@@ -20,12 +21,8 @@ pub data Plan : Type 0 where
   load : LoadPlan → Plan
   store : StorePlan → Plan
 
--- Answer 3 is given regardless of masks.
 unfoldable pub served : ℕ → Decoded → Plan → Prepared Answer Plan
-served vl word plan =
-    cond (every narrow (operandsOf word))
-    (cond (every (fitting vl) (operandsOf word)) (ready plan) (refused PastRegisters))
-    (refused BadWidth)
+served vl word plan = cond (accepts (checked vl word)) (ready plan) (refused (checked vl word))
 
 unfoldable pub prepared : ℕ → List ℕ → Decoded → Prepared Answer Plan
 prepared vl registers (Operation w) = served vl (Operation w) (operation (operationPlan vl registers w))

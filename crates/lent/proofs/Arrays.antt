@@ -1,16 +1,15 @@
--- Machines and arrays determine each other, words in range are their low bits, and what stands at an index.
-use Prim.Native.Nat.{ℕ, suc, _≤_, _<_, _%_, _^_}
+-- Machines and arrays determine each other, and words in range are their low bits.
+use Prim.Native.Nat.{ℕ, _≤_, _%_, _^_}
 use mathlib.Core.Path.{_≡_, refl, _∙_}
 use mathlib.Core.Bool.{true}
 use mathlib.Core.List.{List, [], _∷_}
 use lib.ListN.{length, getD}
 use native.Mathlib.Nat.{mod-eq-of-lt}
 use native.Mathlib.Omega.{arith}
-use borrow.Author.Tests.{lt-ltb, le-ltb}
 use Rattle.state_word.specs.declared.State.{State}
 use Rattle.state_word.specs.State.{stateInShape}
 use Rattle.state_word.proofs.States.{bounds}
-use Rattle.lent.specs.Layout.{stateOf, lowBits, elementAt, ControlBack, Faithful}
+use Rattle.lent.specs.Layout.{stateOf, lowBits, ControlBack, Faithful}
 
 control-back : (control : List ℕ) → ControlBack control
 control-back (a ∷ b ∷ c ∷ d ∷ e ∷ f ∷ []) h = refl
@@ -40,12 +39,3 @@ all-bits {s} e shaped =
       low-word (s .source) (omega arith),
       low-word (s .destination) (omega arith),
     )
-
-module _ (size : ℕ) (elements : List ℕ) (index : ℕ) where
-  pub missing : size ≤ index → 0 ≡ elementAt size elements index
-  unfolding elementAt
-  missing h = rw (le-ltb index size h)
-
-  pub present : index < size → getD elements index 0 ≡ elementAt size elements index
-  unfolding elementAt
-  present h = rw (lt-ltb index size h)

@@ -5,6 +5,7 @@ use mathlib.Core.Bool.{cond}
 use mathlib.Core.List.{List, [], _∷_}
 use lib.Dec.{ltb}
 use lib.ListN.{length, getD}
+use denote.Ref.{RefT, now}
 use Rattle.state_word.specs.declared.State.{State}
 use Rattle.machine.specs.declared.Machine.{Machine}
 
@@ -28,9 +29,9 @@ lowBits s = record {
   destination = s .destination % 2 ^ 32;
 }
 
--- an element of an array of a size, and 0 where there is none
-unfoldable pub elementAt : ℕ → List ℕ → ℕ → ℕ
-elementAt size elements index = cond (ltb index size) (getD elements index 0) 0
+-- a register, and 0 where there is none
+unfoldable pub registerAt : List ℕ → ℕ → ℕ
+registerAt registers index = cond (ltb index 128) (getD registers index 0) 0
 
 -- the machine that four arrays hold
 abbrev pub machineOf : List ℕ → List ℕ → List ℕ → List ℕ → Machine
@@ -41,6 +42,11 @@ machineOf registers control registerTable predicateTable = record {
   «register_table» = registerTable;
   «predicate_table» = predicateTable;
 }
+
+-- the same, of arrays as they are lent
+abbrev pub machineIn : RefT (List ℕ) → RefT (List ℕ) → RefT (List ℕ) → RefT (List ℕ) → Machine
+machineIn registers control registerTable predicateTable =
+    machineOf (now registers) (now control) (now registerTable) (now predicateTable)
 
 -- the control words of a program counter and a state
 abbrev pub controlOf : ℕ → State → List ℕ

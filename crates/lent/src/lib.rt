@@ -1,18 +1,19 @@
 // A machine in four arrays that the caller lends: what the calls on them share.
 ghost use mathlib.Core.Path.{_≡_};
 ghost use mathlib.Core.Bool.{true};
-ghost use Rattle.answers.specs.Verdict.{verdict};
 ghost use lib.ListN.{length};
 ghost use Rattle.machine.specs.Shape.{inShape, Sized};
-ghost use Rattle.lent.specs.Layout.{stateOf, lowBits, machineOf};
-ghost use Rattle.lent.specs.Leaves.{Says};
+ghost use Rattle.machine.specs.Calls.{done, guarded};
+ghost use Rattle.lent.specs.Layout.{stateOf, lowBits, registerAt, machineIn};
+ghost use Rattle.lent.specs.Leaves.{Says, Replies};
 use answers::Answer;
-use answers::verdict_of;
+use answers::verdict;
 use machine::Machine;
+use registers::REGISTERS;
 use state_word::State;
+use tables::ENTRIES;
 use tables::entry::all_bit0_clear;
 
-pub mod reading;
 pub mod setting;
 
 // Where each control word stands.
@@ -28,14 +29,19 @@ pub const SOURCE: usize = 4;
 
 pub const DESTINATION: usize = 5;
 
+pub const CONTROL_WORDS: usize = 6;
+
 // Whether none of the reasons of answer 6 applies.
 pub fn in_shape<'a>(
-    registers: &'a [u64; 128],
-    control: &'a [u64; 6],
-    register_table: &'a [u16; 16],
-    predicate_table: &'a [u16; 16],
+    registers: &'a [u64; REGISTERS],
+    control: &'a [u64; CONTROL_WORDS],
+    register_table: &'a [u16; ENTRIES],
+    predicate_table: &'a [u16; ENTRIES],
 ) -> bool
-    ensures { λ r. ⌜ r ≡ inShape (machineOf (now (registers .entry)) (now (control .entry)) (now («register_table» .entry)) (now («predicate_table» .entry))) ⌝ }
+    ensures { λ r. ⌜
+        (let m = machineIn (registers .entry) (control .entry) («register_table» .entry) («predicate_table» .entry) in
+        r ≡ inShape m)
+        ⌝ }
 {
     (1 <= control[MVL])
         & (control[MVL] <= 64)
@@ -48,34 +54,54 @@ pub fn in_shape<'a>(
         & all_bit0_clear(predicate_table)
 }
 
-// What a setting or reading call says, by its two other tests.
-pub fn judged<'a>(
-    registers: &'a [u64; 128],
-    control: &'a [u64; 6],
-    register_table: &'a [u16; 16],
-    predicate_table: &'a [u16; 16],
-    placed: bool,
-    good: bool,
-) -> Answer
-    ensures { λ r. ⌜ r ≡ verdict (inShape (machineOf (now (registers .entry)) (now (control .entry)) (now («register_table» .entry)) (now («predicate_table» .entry)))) placed good ⌝ }
-{
-    verdict_of(
-        in_shape(registers, control, register_table, predicate_table),
-        placed,
-        good,
-    )
-}
-
 // An answer in C's form: its number is returned, its value put where the caller wants it.
-pub fn tell(answer: Answer, value: &mut u64) -> u32
+pub fn write_answer(answer: Answer, value: &mut u64) -> u32
     ensures { λ r. ⌜ Says answer r (now (value .exit)) ⌝ }
 {
     *value = answer.value();
     answer.number()
 }
 
+// A reading call, by whether its entry or register exists, its own answer, and what it returns where nothing refuses
+// it. A setting call is the same, and then sets.
+pub fn guarded<'a>(
+    registers: &'a [u64; REGISTERS],
+    control: &'a [u64; CONTROL_WORDS],
+    register_table: &'a [u16; ENTRIES],
+    predicate_table: &'a [u16; ENTRIES],
+    exists: bool,
+    own: Answer,
+    result: u64,
+    value: &mut u64,
+) -> u32
+    ensures { λ r. ⌜
+        (let m = machineIn (registers .entry) (control .entry) («register_table» .entry) («predicate_table» .entry) in
+        Replies (guarded m exists own (done m result)) r (now (value .exit)) m)
+        ⌝ }
+{
+    let answer = verdict(
+        in_shape(registers, control, register_table, predicate_table),
+        exists,
+        own,
+    );
+    if answer.accepts() {
+        return write_answer(Answer::Done(result), value);
+    }
+    write_answer(answer, value)
+}
+
+// A register, and 0 where there is none.
+pub fn register_at(registers: &[u64; REGISTERS], index: u32) -> u64
+    ensures { λ r. ⌜ r ≡ registerAt (now (registers .entry)) index ⌝ }
+{
+    if 128 <= index {
+        return 0;
+    }
+    registers[index as usize]
+}
+
 // MVL, VL, CFG and the offsets: of each the low 32 bits, which are all of a word in range.
-pub fn state_of(control: &[u64; 6]) -> State
+pub fn state_of(control: &[u64; CONTROL_WORDS]) -> State
     ensures { λ r. ⌜ r ≡ lowBits (stateOf (now (control .entry))) ⌝ }
 {
     State {
@@ -88,7 +114,7 @@ pub fn state_of(control: &[u64; 6]) -> State
 }
 
 // Six words, by value: there are six.
-fn six(words: [u64; 6]) -> [u64; 6]
+fn six(words: [u64; CONTROL_WORDS]) -> [u64; CONTROL_WORDS]
     ensures { λ r. ⌜ (r ≡ words) × (length words ≡ 6) ⌝ }
 {
     words
@@ -96,12 +122,15 @@ fn six(words: [u64; 6]) -> [u64; 6]
 
 // Whether the arrays have their lengths, as they always do: a theorem that takes these as a premise has them here.
 pub fn sized<'a>(
-    registers: &'a [u64; 128],
-    control: &'a [u64; 6],
-    register_table: &'a [u16; 16],
-    predicate_table: &'a [u16; 16],
+    registers: &'a [u64; REGISTERS],
+    control: &'a [u64; CONTROL_WORDS],
+    register_table: &'a [u16; ENTRIES],
+    predicate_table: &'a [u16; ENTRIES],
 ) -> bool
-    ensures { λ r. ⌜ (r ≡ true) × Sized (machineOf (now (registers .entry)) (now (control .entry)) (now («register_table» .entry)) (now («predicate_table» .entry))) × (length (now (control .entry)) ≡ 6) ⌝ }
+    ensures { λ r. ⌜
+        (let m = machineIn (registers .entry) (control .entry) («register_table» .entry) («predicate_table» .entry) in
+        (r ≡ true) × Sized m × (length (now (control .entry)) ≡ 6))
+        ⌝ }
 {
     let words = *control;
     six(words);

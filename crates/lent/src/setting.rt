@@ -1,52 +1,49 @@
-// The calls that set one thing, by what they put there.
-ghost use mathlib.Core.Path.{_≡_};
+// The calls that set control words, by what they put there.
 ghost use mathlib.Core.Bool.{true};
-ghost use lib.ListN.{set};
-ghost use Prim.Native.Nat.{_<_};
 ghost use Rattle.machine.specs.Calls.{done, guarded};
 ghost use Rattle.machine.specs.Setting.{vlSet};
-ghost use Rattle.machine.specs.Update.{withRoom};
-ghost use Rattle.lent.specs.Layout.{machineOf};
+ghost use Rattle.machine.specs.Update.{withPc, withState};
+ghost use Rattle.lent.specs.Layout.{machineIn};
 ghost use Rattle.lent.specs.Leaves.{Replies};
+use crate::CONTROL_WORDS;
 use crate::PC;
-use crate::judged;
+use crate::guarded;
 use crate::state_of;
-use crate::tell;
 use answers::Answer;
+use registers::REGISTERS;
 use state_word::State;
+use tables::ENTRIES;
 
-// Replaces an entry.
-pub fn put_entry(entries: &mut [u16; 16], index: u32, entry: u16)
-    requires { ⌜ index < 16 ⌝ }
-    ensures { λ r. ⌜ now (entries .exit) ≡ set (now (entries .entry)) index entry ⌝ }
-{
-    entries[index as usize] = entry;
-}
-
-// A call that sets control words, by whether its value is good, what they become, and what it returns.
+// A call that sets control words, by its own answer, what they become, and what it returns.
 pub fn set_control<'a>(
-    registers: &'a [u64; 128],
-    control: &mut [u64; 6],
-    register_table: &'a [u16; 16],
-    predicate_table: &'a [u16; 16],
-    good: bool,
+    registers: &'a [u64; REGISTERS],
+    control: &mut [u64; CONTROL_WORDS],
+    register_table: &'a [u16; ENTRIES],
+    predicate_table: &'a [u16; ENTRIES],
+    own: Answer,
     pc: u64,
     state: State,
-    reading: u64,
+    result: u64,
     value: &mut u64,
 ) -> u32
-    ensures { λ r. ⌜ Replies (guarded (machineOf (now (registers .entry)) (now (control .entry)) (now («register_table» .entry)) (now («predicate_table» .entry))) true good (done (withRoom (machineOf (now (registers .entry)) (now (control .entry)) (now («register_table» .entry)) (now («predicate_table» .entry))) (now (registers .entry)) pc state) reading)) r (now (value .exit)) (machineOf (now (registers .entry)) (now (control .exit)) (now («register_table» .entry)) (now («predicate_table» .entry))) ⌝ }
+    ensures { λ r. ⌜
+        (let m = machineIn (registers .entry) (control .entry) («register_table» .entry) («predicate_table» .entry) in
+        let after = machineIn (registers .entry) (control .exit) («register_table» .entry) («predicate_table» .entry) in
+        Replies (guarded m true own (done (withState (withPc m pc) state) result)) r (now (value .exit)) after)
+        ⌝ }
 {
-    let verdict = judged(
+    let answer = guarded(
         registers,
         control,
         register_table,
         predicate_table,
         true,
-        good,
+        own,
+        result,
+        value,
     );
-    if !verdict.accepts() {
-        return tell(verdict, value);
+    if answer != 0 {
+        return answer;
     }
     *control = [
         pc,
@@ -56,20 +53,24 @@ pub fn set_control<'a>(
         state.source as u64,
         state.destination as u64,
     ];
-    tell(Answer::Done(reading), value)
+    answer
 }
 
 // A call that sets VL to min(n, MVL), and returns the new VL.
 pub fn set_vl<'a>(
-    registers: &'a [u64; 128],
-    control: &mut [u64; 6],
-    register_table: &'a [u16; 16],
-    predicate_table: &'a [u16; 16],
-    good: bool,
+    registers: &'a [u64; REGISTERS],
+    control: &mut [u64; CONTROL_WORDS],
+    register_table: &'a [u16; ENTRIES],
+    predicate_table: &'a [u16; ENTRIES],
+    own: Answer,
     n: u64,
     value: &mut u64,
 ) -> u32
-    ensures { λ r. ⌜ Replies (guarded (machineOf (now (registers .entry)) (now (control .entry)) (now («register_table» .entry)) (now («predicate_table» .entry))) true good (vlSet (machineOf (now (registers .entry)) (now (control .entry)) (now («register_table» .entry)) (now («predicate_table» .entry))) n)) r (now (value .exit)) (machineOf (now (registers .entry)) (now (control .exit)) (now («register_table» .entry)) (now («predicate_table» .entry))) ⌝ }
+    ensures { λ r. ⌜
+        (let m = machineIn (registers .entry) (control .entry) («register_table» .entry) («predicate_table» .entry) in
+        let after = machineIn (registers .entry) (control .exit) («register_table» .entry) («predicate_table» .entry) in
+        Replies (guarded m true own (vlSet m n)) r (now (value .exit)) after)
+        ⌝ }
 {
     let pc = control[PC];
     let old = state_of(control);
@@ -79,7 +80,7 @@ pub fn set_vl<'a>(
         control,
         register_table,
         predicate_table,
-        good,
+        own,
         pc,
         state,
         state.vl as u64,

@@ -6,7 +6,7 @@ use lib.ListN.{getD}
 use borrow.Author.Tests.{eq-eqb, eqb-true}
 use Rattle.tables.specs.Entry.{allBit0Clear}
 use Rattle.state_word.specs.State.{stateInShape}
-use Rattle.tables.proofs.Booleans.{and-left, and-right}
+use Rattle.bits.proofs.Booleans.{and-left, and-right}
 use Rattle.machine.specs.declared.Machine.{Machine}
 use Rattle.machine.specs.Shape.{roomInShape, tablesInShape, inShape}
 

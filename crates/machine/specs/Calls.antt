@@ -16,8 +16,9 @@ refuse m answer = record { answer = answer; machine = m }
 abbrev pub done : Machine → ℕ → Reply
 done m value = record { answer = Done value; machine = m }
 
--- A setting or reading call: whether its entry or register exists, whether its value is good, and what it replies where nothing
+-- A setting or reading call: whether its entry or register exists, its own answer, and what it replies where nothing
 -- refuses it.
-abbrev pub guarded : Machine → Bool → Bool → Reply → Reply
-guarded m placed good reply =
-    cond (accepts (verdict (inShape m) placed good)) reply (refuse m (verdict (inShape m) placed good))
+abbrev pub guarded : Machine → Bool → Answer → Reply → Reply
+guarded m exists own reply =
+    let answer = verdict (inShape m) exists own in
+    cond (accepts answer) reply (refuse m answer)

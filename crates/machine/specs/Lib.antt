@@ -1,5 +1,5 @@
-pub mod Shape
 pub mod Update
+pub mod Shape
 pub mod Calls
 pub mod Setting
 pub mod Reading

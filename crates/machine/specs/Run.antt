@@ -15,7 +15,7 @@ use Rattle.handler.specs.Prepare.{Plan, prepared}
 use Rattle.handler.specs.Unit.{unitOf}
 use Rattle.machine.specs.declared.Machine.{Machine}
 use Rattle.machine.specs.Shape.{inShape}
-use Rattle.machine.specs.Update.{withRoom}
+use Rattle.machine.specs.Update.{withRegisters, withPc, withState}
 
 -- the machine and the memory that is lent to it
 pub record System : Type 0 where
@@ -31,7 +31,7 @@ positionOf m = record { pc = m .pc; source = m .state .source; destination = m .
 -- the machine with the registers and the position as given
 abbrev pub withPosition : Machine → List ℕ → Position → Machine
 withPosition m registers p =
-    withRoom m registers (p .pc) (withOffsets (m .state) (p .source) (p .destination))
+    withState (withPc (withRegisters m registers) (p .pc)) (withOffsets (m .state) (p .source) (p .destination))
 
 -- what a unit reads and writes of a machine and its memory
 abbrev pub contextOf : System → Context

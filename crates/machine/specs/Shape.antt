@@ -6,6 +6,7 @@ use lib.ListN.{length, getD, replicate}
 use Rattle.tables.specs.Entry.{allBit0Clear}
 use Rattle.state_word.specs.State.{stateInShape}
 use Rattle.machine.specs.declared.Machine.{Machine}
+use Rattle.machine.specs.Update.{Room, Tables, roomOf, tablesOf}
 
 -- MVL 1, VL 1, CFG 24 and all else zero
 abbrev pub freshMachine : Machine
@@ -17,17 +18,17 @@ freshMachine = record {
   «predicate_table» = replicate 16 0;
 }
 
--- What one hearing has of its own: the ranges of the state, and register 0, which is 0.
-unfoldable pub roomInShape : Machine → Bool
-roomInShape m = stateInShape (m .state) && eqb (getD (m .registers) 0 0) 0
+-- the ranges of the state, and register 0, which is 0
+unfoldable pub roomInShape : Room → Bool
+roomInShape room = stateInShape (room .state) && eqb (getD (room .registers) 0 0) 0
 
 -- bit 0 of all 16 predicate entries is zero
-unfoldable pub tablesInShape : Machine → Bool
-tablesInShape m = allBit0Clear (m .«predicate_table»)
+unfoldable pub tablesInShape : Tables → Bool
+tablesInShape tables = allBit0Clear (tables .predicateTable)
 
 -- A machine is in shape when none of answer 6's reasons applies.
 unfoldable pub inShape : Machine → Bool
-inShape m = roomInShape m && tablesInShape m
+inShape m = roomInShape (roomOf m) && tablesInShape (tablesOf m)
 
 -- What the types of the machine's arrays say: 128 registers, 16 entries in each table.
 pub record Sized (m : Machine) : Type 0 where

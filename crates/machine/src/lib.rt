@@ -1,25 +1,26 @@
 // The machine by value, and the calls that set and read it.
 ghost use mathlib.Core.Path.{_≡_};
 ghost use Rattle.machine.specs.Shape.{freshMachine, inShape, Sized};
-ghost use Rattle.answers.specs.Verdict.{verdict};
-ghost use Rattle.machine.specs.Calls.{refuse, done};
+ghost use Rattle.machine.specs.Calls.{refuse, done, guarded};
 use answers::Answer;
-use answers::verdict_of;
+use answers::verdict;
+use registers::REGISTERS;
 use state_word::State;
+use tables::ENTRIES;
 use tables::entry::all_bit0_clear;
 
 pub mod reading;
 pub mod running;
 pub mod setting;
 
-// The two tables stand last: all before them is what one hearing has of its own.
+// The two tables stand last: all before them is what one room has of its own.
 #[repr(C)]
 pub struct Machine {
-    pub registers: [u64; 128],
+    pub registers: [u64; REGISTERS],
     pub pc: u64,
     pub state: State,
-    pub register_table: [u16; 16],
-    pub predicate_table: [u16; 16],
+    pub register_table: [u16; ENTRIES],
+    pub predicate_table: [u16; ENTRIES],
 }
 
 // An answer, and the machine after the call.
@@ -29,11 +30,11 @@ pub struct Reply {
 }
 
 impl Machine {
-    pub const REGISTERS: usize = 128;
+    pub const REGISTERS: usize = REGISTERS;
 
     pub const ELEMENTS: u32 = 64;
 
-    pub const ENTRIES: usize = 16;
+    pub const ENTRIES: usize = ENTRIES;
 
     pub fn fresh() -> Machine
         ensures { λ r. ⌜ r ≡ freshMachine ⌝ }
@@ -54,7 +55,8 @@ impl Machine {
         }
     }
 
-    // The machine itself. Its arrays have their lengths, whatever it holds: a theorem that takes `Sized` as a premise has it here.
+    // The machine itself. Its arrays have their lengths, whatever it holds: a theorem that takes `Sized` as a premise
+    // has it here.
     pub fn sized(self) -> Machine
         ensures { λ r. ⌜ (r ≡ self) × Sized self ⌝ }
     {
@@ -69,13 +71,19 @@ impl Machine {
         state.in_shape() & (self.registers[0] == 0) & all_bit0_clear(&self.predicate_table)
     }
 
-    fn judged(self, placed: bool, good: bool) -> Answer
-        ensures { λ r. ⌜ r ≡ verdict (inShape self) placed good ⌝ }
+    // A setting or reading call, by whether its entry or register exists, its own answer, and what it replies where
+    // nothing refuses it.
+    fn guarded(self, exists: bool, own: Answer, reply: Reply) -> Reply
+        ensures { λ r. ⌜ r ≡ guarded self exists own reply ⌝ }
     {
-        verdict_of(self.in_shape(), placed, good)
+        let answer = verdict(self.in_shape(), exists, own);
+        if answer.accepts() {
+            return reply;
+        }
+        self.refuse(answer)
     }
 
-    fn refused(self, answer: Answer) -> Reply
+    fn refuse(self, answer: Answer) -> Reply
         ensures { λ r. ⌜ r ≡ refuse self answer ⌝ }
     {
         Reply {

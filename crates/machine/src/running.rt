@@ -7,27 +7,32 @@ ghost use Rattle.machine.specs.Run.{system, run, step};
 use crate::Machine;
 use crate::Reply;
 use answers::Answer;
+use decode::decode;
 use walk::position::Position;
 
 impl Machine {
     // The run of a machine in shape. Its registers are lent, and worked on in place.
     fn run_in_shape(mut self, word: u32, allowance: u16, memory: &mut [u8]) -> Reply
         requires { ⌜ inShape self ≡ true ⌝ }
-        ensures { λ r. ⌜ outcome (r .answer) (system (r .machine) (now (memory .exit))) ≡ run word allowance (system self (now (memory .entry))) ⌝ }
+        ensures { λ r. ⌜
+            outcome (r .answer) (system (r .machine) (now (memory .exit)))
+            ≡ run word allowance (system self (now (memory .entry)))
+            ⌝ }
     {
         let position = Position {
             pc: self.pc,
             source: self.state.source,
             destination: self.state.destination,
         };
-        let register_table = self.register_table;
-        let predicate_table = self.predicate_table;
-        let ran = handler::run(
+        let decoded = decode(
             word,
-            self.state.vl,
             self.state.cfg,
-            &register_table,
-            &predicate_table,
+            &self.register_table,
+            &self.predicate_table,
+        );
+        let ran = handler::run(
+            decoded,
+            self.state.vl,
             position,
             allowance,
             &mut self.registers,
@@ -46,17 +51,23 @@ impl Machine {
 
     // Runs a word for at most as many units as allowed.
     pub fn run(self, word: u32, allowance: u16, memory: &mut [u8]) -> Reply
-        ensures { λ r. ⌜ outcome (r .answer) (system (r .machine) (now (memory .exit))) ≡ run word allowance (system self (now (memory .entry))) ⌝ }
+        ensures { λ r. ⌜
+            outcome (r .answer) (system (r .machine) (now (memory .exit)))
+            ≡ run word allowance (system self (now (memory .entry)))
+            ⌝ }
     {
         if self.in_shape() {
             return self.run_in_shape(word, allowance, memory);
         }
-        self.refused(Answer::OutOfShape)
+        self.refuse(Answer::OutOfShape)
     }
 
     // One unit.
     pub fn step(self, word: u32, memory: &mut [u8]) -> Reply
-        ensures { λ r. ⌜ outcome (r .answer) (system (r .machine) (now (memory .exit))) ≡ step word (system self (now (memory .entry))) ⌝ }
+        ensures { λ r. ⌜
+            outcome (r .answer) (system (r .machine) (now (memory .exit)))
+            ≡ step word (system self (now (memory .entry)))
+            ⌝ }
     {
         self.run(word, 1, memory)
     }

@@ -26,6 +26,8 @@ pub served : (size address n : ℕ) {at : ℕ} → located size address n ≡ In
 unfolding inside located
 served size address n {at} e = go (leb (address + n) size) refl e
   where
-    go : (t : Bool) → leb (address + n) size ≡ t → cond t (Inside address) Outside ≡ Inside at → Served size address n at
+    go :
+        (t : Bool) → leb (address + n) size ≡ t → cond t (Inside address) Outside ≡ Inside at →
+        Served size address n at
     go true p q = record { start = cc; room = leb-true (address + n) size p }
     go false p q = let z : _≡_ {A = ℕ} 0 1 = cc in record { start = omega arith; room = omega arith }

@@ -19,7 +19,9 @@ number-join memory address (suc m) n =
     let above = number memory (address + suc m) n in
     let step : (address + 1) + m ≡ address + suc m = omega arith in
     let join = rw step at (number-join memory (address + 1) m n) in
-    let scale : 2 ^ (8 * suc m) * above ≡ 256 * (2 ^ (8 * m) * above) = rw (power-suc m) (mul-assoc 256 (2 ^ (8 * m)) above) in
+    let scale : 2 ^ (8 * suc m) * above ≡ 256 * (2 ^ (8 * m) * above) =
+    rw (power-suc m) (mul-assoc 256 (2 ^ (8 * m)) above)
+    in
     rw suc-add (omega arith)
 
 pub read-byte : (memory : List ℕ) (at : ℕ) → getD memory at 0 < 256 → Read memory at 1 (getD memory at 0)

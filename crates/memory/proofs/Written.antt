@@ -11,8 +11,10 @@ use Rattle.memory.specs.LittleEndian.{number, written}
 use Rattle.memory.proofs.Power.{power-suc}
 
 -- m bytes, then n bytes above them
-written-join : (memory : List ℕ) (address m n value : ℕ)
-    → written memory address (m + n) value ≡ written (written memory address m value) (address + m) n (value / 2 ^ (8 * m))
+written-join :
+    (memory : List ℕ) (address m n value : ℕ) →
+    written memory address (m + n) value
+    ≡ written (written memory address m value) (address + m) n (value / 2 ^ (8 * m))
 unfolding written
 written-join memory address zero n value = rw (zero-add, add-zero, div-one)
 written-join memory address (suc m) n value =
@@ -20,15 +22,17 @@ written-join memory address (suc m) n value =
     rw (suc-add, power-suc m, ← div-div-eq-div-mul value 256 (2 ^ (8 * m)), ← step)
     (written-join (set memory address (value % 256)) (address + 1) m n (value / 256))
 
-pub write-join : (memory : List ℕ) (at n value : ℕ) {low high : List ℕ}
-    → low ≡ written memory at n value → high ≡ written low (at + n) n (value / 2 ^ (8 * n)) → high ≡ written memory at (n + n) value
+pub write-join :
+    (memory : List ℕ) (at n value : ℕ) {low high : List ℕ} → low ≡ written memory at n value →
+    high ≡ written low (at + n) n (value / 2 ^ (8 * n)) → high ≡ written memory at (n + n) value
 write-join memory at n value p q = q ∙ rw p (sym (written-join memory at n n value))
 
 pub written-length : (memory : List ℕ) (address n value : ℕ) → length (written memory address n value) ≡ length memory
 unfolding written
 written-length memory address zero value = refl
 written-length memory address (suc n) value =
-    written-length (set memory address (value % 256)) (address + 1) n (value / 256) ∙ length-set memory address (value % 256)
+    written-length (set memory address (value % 256)) (address + 1) n (value / 256)
+    ∙ length-set memory address (value % 256)
 
 -- a byte that is none of the n stays as it was
 pub written-other : (memory : List ℕ) (address n value i : ℕ)

@@ -1,4 +1,5 @@
--- The pair of positions is found by skipping on both sides to the next one that is on; if either reaches VL there is none.
+-- The pair of positions is found by skipping on both sides to the next one that is on; if either reaches VL there is
+-- none.
 use Prim.Native.Nat.{ℕ, zero, suc, _+_, _-_}
 use mathlib.Core.Bool.{cond, _||_}
 use Rattle.operands.specs.declared.mask.Mask.{Mask}

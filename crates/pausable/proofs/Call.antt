@@ -7,14 +7,16 @@ use Rattle.pausable.specs.Walk.{walk}
 use Rattle.pausable.specs.Call.{Prepared, refused, ready, Further, begun, called, listed}
 use Rattle.pausable.proofs.Pause.{ended-stays}
 
-module _ {A S P : Type 0} (answers : Pausing A) (prepare : S → Prepared A P) (unit : P → S → Outcome A S) (n : ℕ) (s : S) where
-  pub called-refused : {a : A} → prepare s ≡ refused a → called answers prepare unit n s ≡ outcome a s
-  unfolding begun
-  called-refused e = rw e
+module _ {A S P : Type 0} (answers : Pausing A) (prepare : S → Prepared A P) (unit : P → S → Outcome A S)
+    (n : ℕ) (s : S)
+  where
+    pub called-refused : {a : A} → prepare s ≡ refused a → called answers prepare unit n s ≡ outcome a s
+    unfolding begun
+    called-refused e = rw e
 
-  pub called-ready : {p : P} → prepare s ≡ ready p → called answers prepare unit n s ≡ walk answers (unit p) n s
-  unfolding begun
-  called-ready e = rw e
+    pub called-ready : {p : P} → prepare s ≡ ready p → called answers prepare unit n s ≡ walk answers (unit p) n s
+    unfolding begun
+    called-ready e = rw e
 
 module _ {A S H : Type 0} (answers : Pausing A) (change : H → S → S) (call : ℕ → S → Outcome A S) where
   -- what a list has left after a pause: the next change, and the calls from there

@@ -46,7 +46,9 @@ module _ {A S P H : Type 0} {answers : Pausing A} {prepare : S → Prepared A P}
         rw (c .unchanged (f .change) p (call n s .state) l) (cut-ready (f .allowance) fs (call n s .state) l))
         ∙ sym (call-add n (total (f .allowance) fs) s k)
 
-    cut-refused : {a : A} (n : ℕ) (fs : List (Further H)) (s : S) → prepare s ≡ refused a → cutCall n fs s ≡ call (total n fs) s
+    cut-refused :
+        {a : A} (n : ℕ) (fs : List (Further H)) (s : S) → prepare s ≡ refused a →
+        cutCall n fs s ≡ call (total n fs) s
     cut-refused {a} n fs s e =
         let same = called-refused answers prepare unit n s e in
         listed-ended answers change call n fs s (rw same (c .refusals s a e))

@@ -21,17 +21,19 @@ module _ {A S : Type 0} (answers : Pausing A) (unit : S → Outcome A S) (Q : S 
       walk-induction answers unit (λ n s o. Q s → Paused answers o → Q (o .state))
       (λ s q e. q) (λ n s e. keeps s) (λ n s o e rest q. rest (keeps s q e))
 
-module _ {A S P : Type 0} (answers : Pausing A) (prepare : S → Prepared A P) (unit : P → S → Outcome A S) (Q : S → Type 0) where
-  -- only of the plans that a state with Q prepares is anything asked
-  pub call-keeps :
-      ((s : S) (p : P) → Q s → prepare s ≡ ready p → Keeps Q (unit p)) →
-      (n : ℕ) → Keeps Q (called answers prepare unit n)
-  unfolding begun
-  call-keeps keeps n s q = by (prepare s) refl
-    where
-      by : (r : Prepared A P) → prepare s ≡ r → Q (begun answers unit r n s .state)
-      by (refused a) e = q
-      by (ready p) e = walk-keeps answers (unit p) Q (keeps s p q e) n s q
+module _ {A S P : Type 0} (answers : Pausing A) (prepare : S → Prepared A P) (unit : P → S → Outcome A S)
+    (Q : S → Type 0)
+  where
+    -- only of the plans that a state with Q prepares is anything asked
+    pub call-keeps :
+        ((s : S) (p : P) → Q s → prepare s ≡ ready p → Keeps Q (unit p)) →
+        (n : ℕ) → Keeps Q (called answers prepare unit n)
+    unfolding begun
+    call-keeps keeps n s q = by (prepare s) refl
+      where
+        by : (r : Prepared A P) → prepare s ≡ r → Q (begun answers unit r n s .state)
+        by (refused a) e = q
+        by (ready p) e = walk-keeps answers (unit p) Q (keeps s p q e) n s q
 
 module _ {A S H : Type 0} (answers : Pausing A) (change : H → S → S) (call : ℕ → S → Outcome A S) (Q : S → Type 0) where
   pub list-keeps :

@@ -30,4 +30,5 @@ module _ {A S : Type 0} (answers : Pausing A) (o : Outcome A S) where
       (f g : S → Outcome A S) →
       ifPaused answers (ifPaused answers o f) g ≡ ifPaused answers o (λ s. ifPaused answers (f s) g)
   next-assoc f g =
-      by-pause f (λ x. ifPaused answers x g ≡ ifPaused answers o (λ s. ifPaused answers (f s) g)) (λ e. rw e) (λ e. rw e)
+      by-pause f (λ x. ifPaused answers x g ≡ ifPaused answers o (λ s. ifPaused answers (f s) g))
+      (λ e. rw e) (λ e. rw e)

@@ -27,6 +27,7 @@ module _ {A S : Type 0} (answers : Pausing A) (unit : S → Outcome A S) where
   walk-add zero b s = rw (zero-add, answers .pauses)
   walk-add (suc a) b s =
       rw suc-add
-      (same-next answers (unit s) (walk answers unit (a + b)) (λ t. ifPaused answers (walk answers unit a t) (walk answers unit b))
+      (same-next answers (unit s) (walk answers unit (a + b))
+      (λ t. ifPaused answers (walk answers unit a t) (walk answers unit b))
       (λ e. walk-add a b (unit s .state))
       ∙ sym (next-assoc answers (unit s) (walk answers unit a) (walk answers unit b)))

@@ -20,16 +20,16 @@ use Rattle.accesses.specs.declared.loading.LoadPlan.{LoadPlan}
 use Rattle.accesses.specs.declared.storing.StorePlan.{StorePlan}
 
 abbrev pub isVector : Named → Bool
-isVector n = placeOf (n .operand) .vector
+isVector n = placeOf n .vector
 
 abbrev pub secondPlan : word.Second → Second
-secondPlan (second.Register n) = Register (placeOf (n .operand))
+secondPlan (second.Register n) = Register (placeOf n)
 secondPlan (second.Immediate value) = Immediate value
 
 -- the registers when the call starts
 module _ (registers : List ℕ) where
   abbrev pub side : Bool → Named → Side
-  side walks n = record { place = placeOf (n .operand); walks = walks; mask = maskBy registers (n .predicate) }
+  side walks n = record { place = placeOf n; walks = walks; mask = maskBy registers (n .predicate) }
 
   -- A vector side walks; an address side walks always.
   abbrev pub valueSide : Named → Side
@@ -44,9 +44,9 @@ module _ (vl : ℕ) (registers : List ℕ) where
   operationPlan w = record {
     vl = vl;
     operator = w .operator;
-    destination = placeOf (w .destination .operand);
+    destination = placeOf (w .destination);
     mask = maskBy registers (w .destination .predicate);
-    first = placeOf (w .first .operand);
+    first = placeOf (w .first);
     second = secondPlan (w .second);
   }
 

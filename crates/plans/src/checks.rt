@@ -1,15 +1,15 @@
-// Whether the operands of a word are of the width that is served, and reach no further than the registers.
+// The refusals that look at a word's operands: answers 4 and 3, in that order.
 ghost use mathlib.Core.Path.{_≡_};
 ghost use mathlib.Core.List.{[], _∷_};
-ghost use Rattle.decode.specs.declared.decoded.Decoded.the-variants.{Operation};
-ghost use Rattle.plans.specs.Operands.{secondOperands, operandsOf, every, narrow, fitting};
+ghost use Rattle.plans.specs.Operands.{defaultWidth, fitting, checkedOperands, checked};
+use answers::Answer;
+use decode::decoded::Decoded;
 use decode::decoded::Named;
-use decode::decoded::OperationWord;
 use decode::decoded::Second;
 use operands::place::place_of;
 
-fn narrow(n: Named) -> bool
-    ensures { λ r. ⌜ r ≡ narrow n ⌝ }
+fn default_width(n: Named) -> bool
+    ensures { λ r. ⌜ r ≡ defaultWidth n ⌝ }
 {
     n.width == 0
 }
@@ -17,69 +17,56 @@ fn narrow(n: Named) -> bool
 fn fitting(n: Named, vl: u32) -> bool
     ensures { λ r. ⌜ r ≡ fitting vl n ⌝ }
 {
-    let operand = n.operand;
-    place_of(operand).fits(vl)
+    place_of(n).fits(vl)
 }
 
-// Of two operands.
-pub fn both_narrow(a: Named, b: Named) -> bool
-    ensures { λ r. ⌜ r ≡ every narrow (a ∷ b ∷ []) ⌝ }
+fn checked_operands(first: Named, second: Named, third: Named, vl: u32) -> Answer
+    ensures { λ r. ⌜ r ≡ checkedOperands vl (first ∷ second ∷ third ∷ []) ⌝ }
 {
-    if narrow(a) { narrow(b) } else { false }
-}
-
-pub fn both_fit(a: Named, b: Named, vl: u32) -> bool
-    ensures { λ r. ⌜ r ≡ every (fitting vl) (a ∷ b ∷ []) ⌝ }
-{
-    if fitting(a, vl) {
-        fitting(b, vl)
-    } else {
-        false
+    if !(default_width(first) & default_width(second) & default_width(third)) {
+        return Answer::BadWidth;
     }
-}
-
-// Of a second operand, which an immediate is not.
-fn second_narrow(second: Second) -> bool
-    ensures { λ r. ⌜ r ≡ every narrow (secondOperands second) ⌝ }
-{
-    match second {
-        Second::Register(n) => narrow(n),
-        Second::Immediate(_) => true,
+    if !fitting(first, vl) {
+        return Answer::PastRegisters;
     }
-}
-
-fn second_fits(second: Second, vl: u32) -> bool
-    ensures { λ r. ⌜ r ≡ every (fitting vl) (secondOperands second) ⌝ }
-{
-    match second {
-        Second::Register(n) => fitting(n, vl),
-        Second::Immediate(_) => true,
+    if !fitting(second, vl) {
+        return Answer::PastRegisters;
     }
-}
-
-// Of all operands of an operation.
-pub fn operation_narrow(word: OperationWord) -> bool
-    ensures { λ r. ⌜ r ≡ every narrow (operandsOf (Operation word)) ⌝ }
-{
-    let destination = word.destination;
-    let first = word.first;
-    let second = word.second;
-    if both_narrow(destination, first) {
-        second_narrow(second)
-    } else {
-        false
+    if !fitting(third, vl) {
+        return Answer::PastRegisters;
     }
+    Answer::Done(0)
 }
 
-pub fn operation_fits(word: OperationWord, vl: u32) -> bool
-    ensures { λ r. ⌜ r ≡ every (fitting vl) (operandsOf (Operation word)) ⌝ }
+// Of a word with two operands the second is looked at again.
+pub fn checked(word: Decoded, vl: u32) -> Answer
+    ensures { λ r. ⌜ r ≡ checked vl word ⌝ }
 {
-    let destination = word.destination;
-    let first = word.first;
-    let second = word.second;
-    if both_fit(destination, first, vl) {
-        second_fits(second, vl)
-    } else {
-        false
+    match word {
+        Decoded::Operation(w) => {
+            let first = w.destination;
+            let second = w.first;
+            let third = w.second;
+            match third {
+                Second::Register(n) => checked_operands(first, second, n, vl),
+                Second::Immediate(_) => checked_operands(first, second, second, vl),
+            }
+        }
+        Decoded::Load(w) => {
+            let first = w.destination;
+            let second = w.address;
+            checked_operands(first, second, second, vl)
+        }
+        Decoded::Store(w) => {
+            let first = w.data;
+            let second = w.address;
+            checked_operands(first, second, second, vl)
+        }
+        Decoded::Move(w) => {
+            let first = w.destination;
+            let second = w.source;
+            checked_operands(first, second, second, vl)
+        }
+        Decoded::Unknown => Answer::Done(0),
     }
 }

@@ -21,10 +21,7 @@ fn second_plan(second: word::Second) -> Second
     ensures { λ r. ⌜ r ≡ secondPlan second ⌝ }
 {
     match second {
-        word::Second::Register(n) => {
-            let operand = n.operand;
-            Second::Register(place_of(operand))
-        }
+        word::Second::Register(n) => Second::Register(place_of(n)),
         word::Second::Immediate(value) => Second::Immediate(value),
     }
 }
@@ -34,16 +31,14 @@ pub fn operation_plan(word: OperationWord, vl: u32, registers: &[u64; 128]) -> O
 {
     let operator = word.operator;
     let destination = word.destination;
-    let to = destination.operand;
     let first = word.first;
-    let from = first.operand;
     let second = word.second;
     OperationPlan {
         vl,
         operator,
-        destination: place_of(to),
+        destination: place_of(destination),
         mask: mask_by(destination.predicate, registers),
-        first: place_of(from),
+        first: place_of(first),
         second: second_plan(second),
     }
 }
@@ -52,8 +47,7 @@ pub fn operation_plan(word: OperationWord, vl: u32, registers: &[u64; 128]) -> O
 fn side_of(n: Named, always: bool, registers: &[u64; 128]) -> Side
     ensures { λ r. ⌜ r ≡ side (now (registers .entry)) (always || isVector n) n ⌝ }
 {
-    let operand = n.operand;
-    let place = place_of(operand);
+    let place = place_of(n);
     Side {
         place,
         walks: always | place.vector,

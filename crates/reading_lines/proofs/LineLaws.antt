@@ -17,7 +17,7 @@ use Rattle.reading_lines.specs.declared.line.Expected.the-variants.{Pair
 use Rattle.reading_lines.specs.Words.{ascii, part, wordsOf, wordAt, FirstWord}
 use Rattle.reading_lines.specs.Number.{upTo}
 use Rattle.reading_lines.specs.Calls.{Form, forms, largest, limitsOf, asLimits}
-use Rattle.reading_lines.specs.Line.{argumentOf, pairOf, expectedOf, wholeOf, madeOf, Read}
+use Rattle.reading_lines.specs.Line.{argumentOf, pairOf, expectedOf, wholeOf, callWith, Read}
 use Rattle.reading_lines.proofs.WordLaws.{word-length}
 use Rattle.reading_lines.proofs.PlaceLaws.{tested}
 
@@ -48,20 +48,24 @@ arguments (a ∷ []) ws one two h p q = (refl, q ∙ p)
 arguments (a ∷ b ∷ []) ws one two h p q = (rw (p, getD-drop 1 ws 0 []), q ∙ ap (drop 1) p ∙ drop-drop 1 1 ws)
 arguments (a ∷ b ∷ c ∷ limits) ws one two h p q = absurd (omega arith)
 
+-- the words from a place on
+abbrev words-from : List ℕ → ℕ → List (List ℕ)
+words-from line i = wordsOf (drop i line)
+
 -- a call's arguments, read one after the other
-pub made :
+pub call-with :
     (line : List ℕ) (call : ℕ) (ws : List (List ℕ)) (l : Limits) (a b : Part) → l ≡ asLimits (limitsOf call) →
     Read line (cond (ltb 0 (l .0)) (upTo (l .1) (wordAt 0 ws)) (Value 0)) (cond (ltb 0 (l .0)) (drop 1 ws) ws) a →
     Read line
-    (cond (ltb 1 (l .0)) (upTo (l .2) (wordAt 0 (wordsOf (drop (a .end) line)))) (Value 0))
-    (cond (ltb 1 (l .0)) (drop 1 (wordsOf (drop (a .end) line))) (wordsOf (drop (a .end) line)))
+    (cond (ltb 1 (l .0)) (upTo (l .2) (wordAt 0 (words-from line (a .end)))) (Value 0))
+    (cond (ltb 1 (l .0)) (drop 1 (words-from line (a .end))) (words-from line (a .end)))
     b →
-    wholeOf call (a .number) (b .number) (expectedOf (wordsOf (drop (b .end) line))) ≡ madeOf call ws
-unfolding argumentOf madeOf
-made line call ws l a b e first second =
+    wholeOf call (a .number) (b .number) (expectedOf (words-from line (b .end))) ≡ callWith call ws
+unfolding argumentOf callWith
+call-with line call ws l a b e first second =
     let f = rw e at first in
     let s = rw e at second in
-    let p = arguments (limitsOf call) ws (wordsOf (drop (a .end) line)) (wordsOf (drop (b .end) line)) (few call) (f .rest) (s .rest) in
+    let p = arguments (limitsOf call) ws _ (words-from line (b .end)) (few call) (f .rest) (s .rest) in
     rw (f .number, s .number, p .0, p .1)
 
 pub nothing : (words : List (List ℕ)) → length (wordAt 0 words) ≡ 0 → Pair 0 0 ≡ expectedOf words
@@ -87,16 +91,16 @@ chosen t x y z e = record { yes = λ h. rw h at e; no = λ h. rw h at e }
 module _ (line : List ℕ) (from : ℕ) (w : Word) (a v : Part) (z : Word) (b : Bool) (first : FirstWord line from w) where
   pub something :
       (w .start ≡ w .end → ⊥) →
-      Read line (upTo 8 (wordAt 0 (wordsOf (drop (w .end) line)))) (drop 1 (wordsOf (drop (w .end) line))) a →
-      Read line (upTo (largest 64) (wordAt 0 (wordsOf (drop (a .end) line)))) (drop 1 (wordsOf (drop (a .end) line))) v →
+      Read line (upTo 8 (wordAt 0 (words-from line (w .end)))) (drop 1 (words-from line (w .end))) a →
+      Read line (upTo (largest 64) (wordAt 0 (words-from line (a .end)))) (drop 1 (words-from line (a .end))) v →
       FirstWord line (v .end) z →
-      ((b ≡ true → part (w .start) (w .end) line ≡ ascii "=") × (part (w .start) (w .end) line ≡ ascii "=" → b ≡ true)) →
-      Chosen (b && eqb (z .start) (z .end)) (pairOf (a .number) (v .number)) NoPair (expectedOf (wordsOf (drop from line)))
+      (let word = part (w .start) (w .end) line in (b ≡ true → word ≡ ascii "=") × (word ≡ ascii "=" → b ≡ true)) →
+      Chosen (b && eqb (z .start) (z .end)) (pairOf (a .number) (v .number)) NoPair (expectedOf (words-from line from))
   unfolding expectedOf
   something n answer value last test =
-      let ws = wordsOf (drop from line) in
-      let two : wordsOf (drop (a .end) line) ≡ drop 2 ws = answer .rest ∙ ap (drop 1) (first .rest) ∙ drop-drop 1 1 ws in
-      let three : wordsOf (drop (v .end) line) ≡ drop 3 ws = value .rest ∙ ap (drop 1) two ∙ drop-drop 1 2 ws in
+      let ws = words-from line from in
+      let two : words-from line (a .end) ≡ drop 2 ws = answer .rest ∙ ap (drop 1) (first .rest) ∙ drop-drop 1 1 ws in
+      let three : words-from line (v .end) ≡ drop 3 ws = value .rest ∙ ap (drop 1) two ∙ drop-drop 1 2 ws in
       let size = word-length line from w first in
       let m = first .middle in
       let end : length (wordAt 3 ws) ≡ z .end - z .start =

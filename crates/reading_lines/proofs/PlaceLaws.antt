@@ -36,12 +36,12 @@ tested false x y p = by (same x y) (same-true x y)
     by false f = refl
 
 -- a word's place among others, by the first of them
-placed :
+by-first :
     (words : List (List ℕ)) (word : List ℕ) → (length (wordAt 0 words) ≡ 0 → ⊥) →
     placeIn words word ≡ cond (same (wordAt 0 words) word) 0 (suc (placeIn (drop 1 words) word))
 unfolding placeIn
-placed [] word n = absurd (n refl)
-placed (w ∷ words) word n = refl
+by-first [] word n = absurd (n refl)
+by-first (w ∷ words) word n = refl
 
 pub none-before : (words : List (List ℕ)) (word : List ℕ) → words ≡ [] → placeIn words word ≡ 0
 unfolding placeIn
@@ -53,5 +53,7 @@ pub among :
     ((b ≡ true → part (r .start) (r .end) list ≡ word) × (part (r .start) (r .end) list ≡ word → b ≡ true)) →
     placeIn (wordsOf (drop at list)) word ≡ cond b 0 (suc (placeIn (wordsOf (drop (r .end) list)) word))
 among list at r word b f n test =
+    let size = word-length list at r f in
+    let m = f .middle in
     rw (tested b (part (r .start) (r .end) list) word test, f .word, f .rest)
-    (placed (wordsOf (drop at list)) word (λ z. let size = word-length list at r f in let m = f .middle in n (omega arith)))
+    (by-first (wordsOf (drop at list)) word (λ z. n (omega arith)))

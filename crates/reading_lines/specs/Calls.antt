@@ -52,7 +52,7 @@ forms =
     ∷ form "bytes" (127 ∷ [])
     ∷ []
 
--- stands for no call: the number of calls
+-- no call: the number of calls
 abbrev pub noCall : ℕ
 noCall = 29
 

@@ -54,8 +54,8 @@ wholeOf call (Value first) NotOne expected = withoutCall Damaged
 wholeOf call NotOne second expected = withoutCall Damaged
 
 -- a call, and the words after its name
-unfoldable pub madeOf : ℕ → List (List ℕ) → Line
-madeOf call words =
+unfoldable pub callWith : ℕ → List (List ℕ) → Line
+callWith call words =
     let limits = limitsOf call in
     wholeOf call (argumentOf limits 0 words) (argumentOf limits 1 words) (expectedOf (drop (length limits) words))
 
@@ -63,7 +63,7 @@ madeOf call words =
 unfoldable pub callLine : List (List ℕ) → Line
 callLine words =
     let call = callOf (wordAt 0 words) in
-    cond (ltb call noCall) (madeOf call (drop 1 words)) (withoutCall Damaged)
+    cond (ltb call noCall) (callWith call (drop 1 words)) (withoutCall Damaged)
 
 -- `#` begins the name of a reading, and `-` a note; an empty line is one too
 unfoldable pub lineOf : List ℕ → Line

@@ -19,8 +19,8 @@ digitsAfter base n (b ∷ bs) =
 abbrev pub isHex : List ℕ → Bool
 isHex word = leb 3 (length word) && (eqb (getD word 0 0) 48 && eqb (getD word 1 0) 120)
 
-unfoldable pub spelled : List ℕ → Number
-spelled word =
+unfoldable pub numberOf : List ℕ → Number
+numberOf word =
     cond (missing word) NotOne (cond (isHex word) (digitsAfter 16 0 (drop 2 word)) (digitsAfter 10 0 word))
 
 -- a number that is not above a limit
@@ -29,4 +29,4 @@ within most (Value n) = cond (leb n most) (Value n) NotOne
 within most NotOne = NotOne
 
 unfoldable pub upTo : ℕ → List ℕ → Number
-upTo most word = within most (spelled word)
+upTo most word = within most (numberOf word)

@@ -1,4 +1,4 @@
--- The words of a line: what stands between spaces.
+-- The words of a line: what is between spaces.
 use Prim.Native.Nat.{ℕ, suc, _-_, _≤_, _<_}
 use Prim.Native.Char.{code}
 use Prim.Native.String.{String, [] as empty, _∷_ as then}

@@ -2,7 +2,7 @@
 ghost use mathlib.Core.Path.{_≡_};
 ghost use Prim.Native.Nat.{_<_};
 ghost use Rattle.reading_lines.specs.Calls.{noCall, callOf, limitsOf, asLimits};
-use crate::words::place;
+use crate::words::place_in;
 
 pub const SET_VL: u64 = 0;
 
@@ -67,8 +67,10 @@ pub const NONE: u64 = 29;
 pub(crate) fn call_of(word: &[u8]) -> u64
     ensures { λ r. ⌜ r ≡ callOf (now (word .entry)) ⌝ }
 {
-    place(
-        b"set-vl set-vl-immediate set-mvl set-cfg set-entry set-predicate set-x set-pc set-state vl mvl cfg entry predicate x pc state run step write-mvl write-vl write-cfg write-source write-destination write-x0 write-predicate memory put bytes",
+    place_in(
+        b"set-vl set-vl-immediate set-mvl set-cfg set-entry set-predicate set-x set-pc set-state vl mvl \
+            cfg entry predicate x pc state run step write-mvl write-vl write-cfg write-source \
+            write-destination write-x0 write-predicate memory put bytes",
         word,
     )
 }

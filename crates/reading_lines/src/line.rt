@@ -5,7 +5,8 @@ ghost use lib.ListN.{length, drop};
 ghost use Rattle.reading_lines.specs.Words.{wordsOf, wordAt};
 ghost use Rattle.reading_lines.specs.Number.{upTo};
 ghost use Rattle.reading_lines.specs.Calls.{noCall};
-ghost use Rattle.reading_lines.specs.Line.{Read, withoutCall, pairOf, expectedOf, wholeOf, madeOf, callLine, lineOf};
+ghost use Rattle.reading_lines.specs.Line.{Read, withoutCall, pairOf, expectedOf, wholeOf};
+ghost use Rattle.reading_lines.specs.Line.{callWith, callLine, lineOf};
 use crate::call;
 use crate::number::Number;
 use crate::number::up_to;
@@ -46,7 +47,10 @@ pub enum Expected {
 // The next word as a number.
 fn next_number(line: &[u8], from: usize, most: u64) -> Part
     requires { ⌜ from ≤ length (now line) ⌝ }
-    ensures { λ r. ⌜ Read (now (line .entry)) (upTo most (wordAt 0 (wordsOf (drop from (now (line .entry)))))) (drop 1 (wordsOf (drop from (now (line .entry))))) r ⌝ }
+    ensures { λ r. ⌜
+        (let words = wordsOf (drop from (now (line .entry))) in
+        Read (now (line .entry)) (upTo most (wordAt 0 words)) (drop 1 words) r)
+        ⌝ }
 {
     let word = next_word(line, from);
     let start = word.start;
@@ -60,7 +64,11 @@ fn next_number(line: &[u8], from: usize, most: u64) -> Part
 // An argument of a call, and 0 with no word where it has none.
 fn argument(line: &[u8], from: usize, present: bool, most: u64) -> Part
     requires { ⌜ from ≤ length (now line) ⌝ }
-    ensures { λ r. ⌜ Read (now (line .entry)) (cond present (upTo most (wordAt 0 (wordsOf (drop from (now (line .entry)))))) (Number.Value 0)) (cond present (drop 1 (wordsOf (drop from (now (line .entry))))) (wordsOf (drop from (now (line .entry))))) r ⌝ }
+    ensures { λ r. ⌜
+        (let words = wordsOf (drop from (now (line .entry))) in
+        Read (now (line .entry)) (cond present (upTo most (wordAt 0 words)) (Number.Value 0))
+        (cond present (drop 1 words) words) r)
+        ⌝ }
 {
     if present {
         return next_number(line, from, most);
@@ -72,7 +80,7 @@ fn argument(line: &[u8], from: usize, present: bool, most: u64) -> Part
 }
 
 // An answer and a value, where both could be read.
-fn pair(answer: Number, value: Number) -> Expected
+fn pair_of(answer: Number, value: Number) -> Expected
     ensures { λ r. ⌜ r ≡ pairOf answer value ⌝ }
 {
     let Number::Value(answer) = answer else {
@@ -85,7 +93,7 @@ fn pair(answer: Number, value: Number) -> Expected
 }
 
 // `= answer value`, or nothing, which is `= 0 0`; and then the line's end.
-fn expectation(line: &[u8], from: usize) -> Expected
+fn expected_of(line: &[u8], from: usize) -> Expected
     requires { ⌜ from ≤ length (now line) ⌝ }
     ensures { λ r. ⌜ r ≡ expectedOf (wordsOf (drop from (now (line .entry)))) ⌝ }
 {
@@ -103,7 +111,7 @@ fn expectation(line: &[u8], from: usize) -> Expected
     }
     let answer = answer.number;
     let value = value.number;
-    pair(answer, value)
+    pair_of(answer, value)
 }
 
 fn without_call(kind: Kind) -> Line
@@ -120,7 +128,7 @@ fn without_call(kind: Kind) -> Line
 }
 
 // The line of a call, where its parts could be read.
-fn whole(call: u64, first: Number, second: Number, expected: Expected) -> Line
+fn whole_of(call: u64, first: Number, second: Number, expected: Expected) -> Line
     ensures { λ r. ⌜ r ≡ wholeOf call first second expected ⌝ }
 {
     let Number::Value(first) = first else {
@@ -143,21 +151,21 @@ fn whole(call: u64, first: Number, second: Number, expected: Expected) -> Line
 }
 
 // A call whose name ends at a place.
-fn made(line: &[u8], call: u64, from: usize) -> Line
+fn call_with(line: &[u8], call: u64, from: usize) -> Line
     requires { ⌜ (call < noCall) × (from ≤ length (now line)) ⌝ }
-    ensures { λ r. ⌜ r ≡ madeOf call (wordsOf (drop from (now (line .entry)))) ⌝ }
+    ensures { λ r. ⌜ r ≡ callWith call (wordsOf (drop from (now (line .entry)))) ⌝ }
 {
     let limits = call::limits_of(call);
     let first = argument(line, from, 0 < limits.0, limits.1);
     let second = argument(line, first.end, 1 < limits.0, limits.2);
-    let expected = expectation(line, second.end);
+    let expected = expected_of(line, second.end);
     let first = first.number;
     let second = second.number;
-    whole(call, first, second, expected)
+    whole_of(call, first, second, expected)
 }
 
 // A line that is no name and no note.
-fn read_call(line: &[u8]) -> Line
+fn call_line(line: &[u8]) -> Line
     ensures { λ r. ⌜ r ≡ callLine (wordsOf (now (line .entry))) ⌝ }
 {
     let name = next_word(line, 0);
@@ -167,11 +175,11 @@ fn read_call(line: &[u8]) -> Line
     if call::NONE <= call {
         return without_call(Kind::Damaged);
     }
-    made(line, call, end)
+    call_with(line, call, end)
 }
 
 // `#` begins the name of a reading, and `-` a note.
-pub fn read_line(line: &[u8]) -> Line
+pub fn line_of(line: &[u8]) -> Line
     ensures { λ r. ⌜ r ≡ lineOf (now (line .entry)) ⌝ }
 {
     if line.len() == 0 {
@@ -180,6 +188,6 @@ pub fn read_line(line: &[u8]) -> Line
     match line[0] {
         b'#' => without_call(Kind::Name),
         b'-' => without_call(Kind::Note),
-        _ => read_call(line),
+        _ => call_line(line),
     }
 }

@@ -1,8 +1,8 @@
 ghost use mathlib.Core.Path.{_≡_};
 ghost use Prim.Native.Nat.{_≤_};
 ghost use lib.ListN.{length, drop};
-ghost use Rattle.reading_lines.specs.Number.{digitsAfter, spelled, upTo};
-use vector_lines::hex::digit;
+ghost use Rattle.reading_lines.specs.Number.{digitsAfter, numberOf, upTo};
+use vector_lines::hex::digit_of;
 
 pub enum Number {
     Value(u64),
@@ -17,7 +17,7 @@ fn digits(word: &[u8], from: usize, base: u64) -> Number
     let mut number: u64 = 0;
     let mut i = from;
     while i < word.len() {
-        let value = digit(word[i]);
+        let value = digit_of(word[i]);
         if base <= value {
             return Number::NotOne;
         }
@@ -32,7 +32,7 @@ fn digits(word: &[u8], from: usize, base: u64) -> Number
 
 // Decimal, or hex after 0x.
 fn number_of(word: &[u8]) -> Number
-    ensures { λ r. ⌜ r ≡ spelled (now (word .entry)) ⌝ }
+    ensures { λ r. ⌜ r ≡ numberOf (now (word .entry)) ⌝ }
 {
     if word.len() == 0 {
         return Number::NotOne;

@@ -30,7 +30,10 @@ fn past_spaces(line: &[u8], from: usize) -> usize
 fn word_end(line: &[u8], from: usize) -> usize
     requires { ⌜ from ≤ length (now line) ⌝ }
     ensures { λ r. ⌜ (from ≤ r) × (r ≤ length (now (line .entry))) ⌝ }
-    ensures { λ r. ⌜ wordsOf (drop from (now (line .entry))) ≡ before (part from r (now (line .entry))) (wordsOf (drop r (now (line .entry)))) ⌝ }
+    ensures { λ r. ⌜
+        (let text = now (line .entry) in
+        wordsOf (drop from text) ≡ before (part from r text) (wordsOf (drop r text)))
+        ⌝ }
     ensures { λ r. ⌜ (r < length (now (line .entry)) → getD (now (line .entry)) r 0 ≡ 32) ⌝ }
 {
     let mut i = from;
@@ -43,7 +46,7 @@ fn word_end(line: &[u8], from: usize) -> usize
     i
 }
 
-// The next word from a place on. An empty one stands at the end of the line.
+// The next word from a place on. At the end of the line it is empty.
 pub(crate) fn next_word(line: &[u8], from: usize) -> Word
     requires { ⌜ from ≤ length (now line) ⌝ }
     ensures { λ r. ⌜ FirstWord (now (line .entry)) from r ⌝ }
@@ -54,7 +57,7 @@ pub(crate) fn next_word(line: &[u8], from: usize) -> Word
 }
 
 // How many words of a list come before a word.
-pub(crate) fn place(list: &[u8], word: &[u8]) -> u64
+pub(crate) fn place_in(list: &[u8], word: &[u8]) -> u64
     ensures { λ r. ⌜ r ≡ placeIn (wordsOf (now (list .entry))) (now (word .entry)) ⌝ }
 {
     let mut n: u64 = 0;

@@ -10,7 +10,7 @@ use answers::Answer;
 use machine::Machine;
 use machine::Reply;
 use reading_lines::line::Line;
-use reading_lines::line::read_line;
+use reading_lines::line::line_of;
 use reading_lines::tally::Tally;
 use reading_lines::tally::outcome_of;
 
@@ -62,7 +62,7 @@ fn compared(before: Tally, text: &[u8], line: Line, answer: Answer) -> Tally {
 
 // A line's call made, and its answer compared.
 fn with_line(bench: Bench, text: &[u8], memory: &mut [u8]) -> Bench {
-    let line = read_line(text);
+    let line = line_of(text);
     let call = line.call;
     let a = line.first;
     let b = line.second;

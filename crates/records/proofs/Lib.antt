@@ -1,4 +1,5 @@
 pub mod Fields
 pub mod Layouts
+pub mod Next
 pub mod Readers
 pub mod Reaching

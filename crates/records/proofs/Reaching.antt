@@ -5,53 +5,55 @@ use mathlib.Core.Path.{_≡_, refl}
 use mathlib.Core.Bool.{Bool, true, false, cond}
 use mathlib.Core.List.{List, [], _∷_, _++_}
 use Rattle.records.specs.Record.{nextRecord}
-use Rattle.records.specs.Reading.{Reading, Advance, advance, takenBy, taken, Search, searched, firstOf, found}
+use Rattle.records.specs.Progress.{Progress, advance, takenBy, taken, searched, firstOf, found}
 use Rattle.records.specs.declared.reader.Event.{Event}
 use Rattle.records.specs.declared.reader.Event.the-variants as event
 use Rattle.records.specs.declared.record.Record.{Record}
 use Rattle.records.specs.declared.record.Next.{Next}
 use Rattle.records.specs.declared.record.Next.the-variants.{Whole, Cut, Unknown, End}
-use Rattle.records.proofs.Layouts.{whole-within}
+use Rattle.records.proofs.Next.{whole-within}
 
-module _ (r : Reading) (byte : ℕ) where
+module _ (r : Progress) (byte : ℕ) where
   abbrev bytes : List ℕ
   bytes = r .pending ++ byte ∷ []
 
-  pub taken-far : (w : Record) → taken r byte .event ≡ event.Whole w → r .offset + 4 ≤ taken r byte .reading .offset
+  pub taken-far : (w : Record) → taken r byte .event ≡ event.Whole w → r .offset + 4 ≤ taken r byte .progress .offset
   unfolding taken
-  taken-far w = by (r .stopped) (nextRecord bytes 0) refl
+  taken-far w = by (r .stopped) (nextRecord (r .runs) bytes 0) refl
     where
       by :
-          (t : Bool) (n : Next) → nextRecord bytes 0 ≡ n →
+          (t : Bool) (n : Next) → nextRecord (r .runs) bytes 0 ≡ n →
           cond t (advance event.Nothing r) (takenBy r bytes n) .event ≡ event.Whole w →
-          r .offset + 4 ≤ cond t (advance event.Nothing r) (takenBy r bytes n) .reading .offset
+          r .offset + 4 ≤ cond t (advance event.Nothing r) (takenBy r bytes n) .progress .offset
       by true n p e = let z : _≡_ {A = ℕ} 0 1 = cc in omega arith
-      by false (Whole v next) p e = omega (arith, whole-within bytes 0 next p .least)
+      by false (Whole v next) p e = omega (arith, whole-within (r .runs) bytes 0 next p .least)
       by false Cut p e = let z : _≡_ {A = ℕ} 0 1 = cc in omega arith
       by false Unknown p e = let z : _≡_ {A = ℕ} 0 1 = cc in omega arith
       by false End p e = let z : _≡_ {A = ℕ} 0 1 = cc in omega arith
 
-  pub taken-onward : r .offset ≤ taken r byte .reading .offset
+  pub taken-onward : r .offset ≤ taken r byte .progress .offset
   unfolding taken
-  taken-onward = by (r .stopped) (nextRecord bytes 0)
+  taken-onward = by (r .stopped) (nextRecord (r .runs) bytes 0)
     where
-      by : (t : Bool) (n : Next) → r .offset ≤ cond t (advance event.Nothing r) (takenBy r bytes n) .reading .offset
+      by : (t : Bool) (n : Next) → r .offset ≤ cond t (advance event.Nothing r) (takenBy r bytes n) .progress .offset
       by true n = omega arith
       by false (Whole v next) = omega arith
       by false Cut = omega arith
       by false Unknown = omega arith
       by false End = omega arith
 
-pub found-far : (r : Reading) (bytes : List ℕ) (w : Record) → found r bytes .event ≡ event.Whole w → r .offset + 4 ≤ found r bytes .reading .offset
+pub found-far :
+    (r : Progress) (bytes : List ℕ) (w : Record) → found r bytes .event ≡ event.Whole w →
+    r .offset + 4 ≤ found r bytes .progress .offset
 unfolding found
 found-far r [] w e = let z : _≡_ {A = ℕ} 0 1 = cc in omega arith
 found-far r (b ∷ bs) w e =
-    by (taken r b .event) refl (taken r b .reading) refl e (found-far (taken r b .reading) bs w)
+    by (taken r b .event) refl (taken r b .progress) refl e (found-far (taken r b .progress) bs w)
   where
     by :
-        (v : Event) → taken r b .event ≡ v → (s : Reading) → taken r b .reading ≡ s →
+        (v : Event) → taken r b .event ≡ v → (s : Progress) → taken r b .progress ≡ s →
         firstOf v (searched v s bs) (found s bs) .event ≡ event.Whole w →
-        (found s bs .event ≡ event.Whole w → s .offset + 4 ≤ found s bs .reading .offset) →
-        r .offset + 4 ≤ firstOf v (searched v s bs) (found s bs) .reading .offset
+        (found s bs .event ≡ event.Whole w → s .offset + 4 ≤ found s bs .progress .offset) →
+        r .offset + 4 ≤ firstOf v (searched v s bs) (found s bs) .progress .offset
     by (event.Whole u) p s q e later = rw q at (taken-far r b u p)
     by event.Nothing p s q e later = omega (arith, rw q at (taken-onward r b), later e)

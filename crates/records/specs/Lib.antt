@@ -1,3 +1,3 @@
 pub mod Record
-pub mod Reading
+pub mod Progress
 pub mod Reader

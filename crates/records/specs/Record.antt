@@ -1,13 +1,14 @@
 -- One record of a stream: one byte of kind, then a body whose length the kind fixes; numbers little-endian.
 use Prim.Native.Nat.{ℕ, _+_}
-use mathlib.Core.Bool.{cond}
+use mathlib.Core.Bool.{Bool, cond, not, _||_}
 use mathlib.Core.List.{List, [], _∷_}
 use lib.Dec.{leb, ltb, eqb}
 use lib.ListN.{length, getD}
 use Rattle.memory.specs.LittleEndian.{number}
 use Rattle.records.specs.declared.record.Layout.{Layout}
 use Rattle.records.specs.declared.record.Record.{Record}
-use Rattle.records.specs.declared.record.Record.the-variants.{RegisterEntry, PredicateEntry, StateWord, Register, Run, Memory}
+use Rattle.records.specs.declared.record.Record.the-variants.{RegisterEntry, PredicateEntry, StateWord}
+use Rattle.records.specs.declared.record.Record.the-variants.{Register, Run, Memory}
 use Rattle.records.specs.declared.record.Next.{Next}
 use Rattle.records.specs.declared.record.Next.the-variants.{Whole, Cut, Unknown, End}
 
@@ -31,9 +32,13 @@ unfoldable pub layoutOf : ℕ → Layout
 unfolding layouts
 layoutOf kind = getD layouts kind (fields 0 0)
 
+-- the same where run records are served, and where they are not: there their kind is unknown
+unfoldable pub servedLayout : Bool → ℕ → Layout
+servedLayout runs kind = cond (runs || not (eqb kind 5)) (layoutOf kind) (fields 0 0)
+
 -- the record of a known kind and its fields
-unfoldable pub madeOf : ℕ → ℕ → ℕ → Record
-madeOf kind first second =
+unfoldable pub recordOf : ℕ → ℕ → ℕ → Record
+recordOf kind first second =
     cond (eqb kind 1) (RegisterEntry first second)
     (cond (eqb kind 2) (PredicateEntry first second)
     (cond (eqb kind 3) (StateWord first)
@@ -44,7 +49,8 @@ madeOf kind first second =
 -- a record whose body is all there, and the place after it
 abbrev pub wholeAt : List ℕ → ℕ → ℕ → Layout → Next
 wholeAt bytes kind body l =
-    Whole (madeOf kind (number bytes body (l .first)) (number bytes (body + l .first) (l .second))) (body + l .first + l .second)
+    let middle = body + l .first in
+    Whole (recordOf kind (number bytes body (l .first)) (number bytes middle (l .second))) (middle + l .second)
 
 -- the record of a kind whose body begins at a place, if the kind is known and the body all there
 unfoldable pub bodyAt : List ℕ → ℕ → ℕ → Layout → Next
@@ -53,7 +59,8 @@ bodyAt bytes kind body l =
     (cond (ltb (length bytes) (body + l .first + l .second)) Cut
     (wholeAt bytes kind body l))
 
--- what stands at a place
-unfoldable pub nextRecord : List ℕ → ℕ → Next
-nextRecord bytes at =
-    cond (leb (length bytes) at) End (bodyAt bytes (getD bytes at 0) (at + 1) (layoutOf (getD bytes at 0)))
+-- what is at a place, where run records are served or not
+unfoldable pub nextRecord : Bool → List ℕ → ℕ → Next
+nextRecord runs bytes at =
+    let kind = getD bytes at 0 in
+    cond (leb (length bytes) at) End (bodyAt bytes kind (at + 1) (servedLayout runs kind))

@@ -15,10 +15,10 @@ pub(crate) fn field(bytes: &[u8], at: usize, size: usize) -> u64
     ensures { λ r. ⌜ Read (now (bytes .entry)) at size r ⌝ }
 {
     let mut value: u64 = 0;
-    let mut left = size;
-    while 0 < left {
-        left -= 1;
-        value = wide(bytes[at + left]) + 256 * value;
+    let mut remaining = size;
+    while 0 < remaining {
+        remaining -= 1;
+        value = wide(bytes[at + remaining]) + 256 * value;
     }
     value
 }

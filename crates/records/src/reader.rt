@@ -1,7 +1,8 @@
 ghost use mathlib.Core.Path.{_≡_};
 ghost use Prim.Native.Nat.{_-_};
 ghost use lib.ListN.{length};
-ghost use Rattle.records.specs.Reader.{Ready, Taking, Finding, freshReader, nothingTaken};
+ghost use Rattle.records.specs.Reader.{newReader, freshReader, readerWithoutRuns};
+ghost use Rattle.records.specs.Reader.{nothingTaken, Ready, Taking, Finding};
 use crate::record::Next;
 use crate::record::Record;
 use crate::record::next_record;
@@ -13,6 +14,8 @@ pub struct Reader {
     pub offset: u64,
     // An unknown kind was met, at that offset.
     pub stopped: bool,
+    // Run records are served.
+    pub runs: bool,
 }
 
 pub enum Event {
@@ -33,18 +36,32 @@ pub struct Found {
 }
 
 impl Reader {
-    pub fn fresh() -> Reader
-        ensures { λ r. ⌜ r ≡ freshReader ⌝ }
+    fn new(runs: bool) -> Reader
+        ensures { λ r. ⌜ r ≡ newReader runs ⌝ }
     {
         Reader {
             kept: [0; 11],
             length: 0,
             offset: 0,
             stopped: false,
+            runs,
         }
     }
 
-    fn nothing(self) -> Taken
+    pub fn fresh() -> Reader
+        ensures { λ r. ⌜ r ≡ freshReader ⌝ }
+    {
+        Reader::new(true)
+    }
+
+    // A run record is bad, whole or cut.
+    pub fn without_runs() -> Reader
+        ensures { λ r. ⌜ r ≡ readerWithoutRuns ⌝ }
+    {
+        Reader::new(false)
+    }
+
+    fn nothing_taken(self) -> Taken
         ensures { λ r. ⌜ r ≡ nothingTaken self ⌝ }
     {
         Taken {
@@ -58,13 +75,13 @@ impl Reader {
         ensures { λ r. ⌜ Taking self byte r ⌝ }
     {
         if self.stopped {
-            return self.nothing();
+            return self.nothing_taken();
         }
         let at = self.length;
         self.kept[at] = byte;
         let end = at + 1;
         let kept = self.kept;
-        match next_record(&kept[..end], 0) {
+        match next_record(self.runs, &kept[..end], 0) {
             Next::Whole(record, next) => {
                 self.length = 0;
                 self.offset = self.offset + next as u64;
@@ -75,18 +92,18 @@ impl Reader {
             }
             Next::Cut => {
                 self.length = end;
-                self.nothing()
+                self.nothing_taken()
             }
             Next::Unknown => {
                 self.stopped = true;
-                self.nothing()
+                self.nothing_taken()
             }
-            Next::End => self.nothing(),
+            Next::End => self.nothing_taken(),
         }
     }
 
     // Takes the bytes of a piece from a place on, up to the end of a record or of the piece.
-    pub fn read(self, piece: &[u8], from: usize) -> Found
+    pub fn find(self, piece: &[u8], from: usize) -> Found
         requires { ⌜ Ready self (length (now piece) - from) ⌝ }
         ensures { λ r. ⌜ Finding self (now (piece .entry)) from r ⌝ }
     {

@@ -1,6 +1,6 @@
 ghost use mathlib.Core.Path.{_≡_};
 ghost use Prim.Native.Nat.{_*_, _^_, _<_};
-ghost use Rattle.records.specs.Record.{layoutOf, madeOf, nextRecord};
+ghost use Rattle.records.specs.Record.{layoutOf, servedLayout, recordOf, nextRecord};
 use crate::field::field;
 
 pub enum Record {
@@ -16,7 +16,7 @@ pub enum Record {
     Memory(u16, u64),
 }
 
-// What stands at a place of some bytes.
+// What is at a place of some bytes.
 pub enum Next {
     // A record, and the place after it.
     Whole(Record, usize),
@@ -70,10 +70,27 @@ fn layout_of(kind: u8) -> Layout
     }
 }
 
+// The same where run records are served, and where they are not.
+fn served_layout(runs: bool, kind: u8) -> Layout
+    ensures { λ r. ⌜ r ≡ servedLayout runs kind ⌝ }
+{
+    if runs | (kind != 5) {
+        return layout_of(kind);
+    }
+    Layout {
+        first: 0,
+        second: 0,
+    }
+}
+
 // The record of a known kind and its fields.
-fn made(kind: u8, first: u64, second: u64) -> Record
-    requires { ⌜ (0 < layoutOf kind .first) × (first < 2 ^ (8 * layoutOf kind .first)) × (second < 2 ^ (8 * layoutOf kind .second)) ⌝ }
-    ensures { λ r. ⌜ r ≡ madeOf kind first second ⌝ }
+fn record_of(kind: u8, first: u64, second: u64) -> Record
+    requires { ⌜
+        (0 < layoutOf kind .first)
+        × (first < 2 ^ (8 * layoutOf kind .first))
+        × (second < 2 ^ (8 * layoutOf kind .second))
+        ⌝ }
+    ensures { λ r. ⌜ r ≡ recordOf kind first second ⌝ }
 {
     match kind {
         1 => Record::RegisterEntry(first as u8, second as u16),
@@ -85,14 +102,15 @@ fn made(kind: u8, first: u64, second: u64) -> Record
     }
 }
 
-pub fn next_record(bytes: &[u8], at: usize) -> Next
-    ensures { λ r. ⌜ r ≡ nextRecord (now (bytes .entry)) at ⌝ }
+// What is at a place, where run records are served or not.
+pub fn next_record(runs: bool, bytes: &[u8], at: usize) -> Next
+    ensures { λ r. ⌜ r ≡ nextRecord runs (now (bytes .entry)) at ⌝ }
 {
     if bytes.len() <= at {
         return Next::End;
     }
     let kind = bytes[at];
-    let fields = layout_of(kind);
+    let fields = served_layout(runs, kind);
     if fields.first < 1 {
         return Next::Unknown;
     }
@@ -103,5 +121,5 @@ pub fn next_record(bytes: &[u8], at: usize) -> Next
     let middle = body + fields.first;
     let first = field(bytes, body, fields.first);
     let second = field(bytes, middle, fields.second);
-    Next::Whole(made(kind, first, second), middle + fields.second)
+    Next::Whole(record_of(kind, first, second), middle + fields.second)
 }

@@ -16,7 +16,9 @@ module _ (registers : List ℕ) (i value : ℕ) where
   unfolding written
   zero-kept z = by (leb 1 i) refl (ltb i 128)
     where
-      by : (low : Bool) → leb 1 i ≡ low → (high : Bool) → getD (cond (low && high) (set registers i value) registers) 0 0 ≡ 0
+      by :
+          (low : Bool) → leb 1 i ≡ low → (high : Bool) →
+          getD (cond (low && high) (set registers i value) registers) 0 0 ≡ 0
       by true e true = rw (getD-set-other registers i 0 value 0 (λ q. omega (arith, leb-true 1 i e))) z
       by true e false = z
       by false e high = z

@@ -3,8 +3,10 @@ ghost use Prim.Native.Nat.{_<_};
 ghost use mathlib.Core.Path.{_≡_};
 ghost use Rattle.registers.specs.Written.{written};
 
+pub const REGISTERS: usize = 128;
+
 // Writes a register that exists, in place. Register 0 stays 0.
-pub fn write_within(registers: &mut [u64; 128], index: usize, value: u64)
+pub fn write_within(registers: &mut [u64; REGISTERS], index: usize, value: u64)
     requires { ⌜ index < 128 ⌝ }
     ensures { λ r. ⌜ now (registers .exit) ≡ written (now (registers .entry)) index value ⌝ }
 {
@@ -14,7 +16,7 @@ pub fn write_within(registers: &mut [u64; 128], index: usize, value: u64)
 }
 
 // Writes a register in place, if it exists.
-pub fn write(registers: &mut [u64; 128], index: usize, value: u64)
+pub fn write(registers: &mut [u64; REGISTERS], index: usize, value: u64)
     ensures { λ r. ⌜ now (registers .exit) ≡ written (now (registers .entry)) index value ⌝ }
 {
     if index < 128 {

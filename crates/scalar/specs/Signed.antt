@@ -1,4 +1,5 @@
--- The manual's signed numbers in registers, by the logic's two's complement: `toZ w` is the number that w bits stand for, `ofZ w` the bits of a number.
+-- The manual's signed numbers in registers, by the logic's two's complement: `toZ w` is the number that w bits stand
+-- for, `ofZ w` the bits of a number.
 use mathlib.Core.Bool.{Bool}
 use Prim.Native.Nat.{ℕ, _%_, _^_}
 use lib.Signed.{ltZ, shrZ}

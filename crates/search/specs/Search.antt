@@ -9,21 +9,23 @@ use Rattle.search.specs.declared.Table.{Table}
 use Rattle.search.specs.declared.Table.the-variants.{Register, Predicate}
 use Rattle.search.specs.declared.Held.{Held}
 use Rattle.search.specs.declared.Held.the-variants.{At, Nothing}
-use Rattle.tables.specs.Enabled.{enabled}
+use Rattle.tables.specs.declared.enabled.Range.{Range}
+use Rattle.tables.specs.Enabled.{inRange}
 use Rattle.tables.specs.Entry.{registerEntry, predicateEntry}
 
 -- An entry whose integer bit is 0 is ignored; the empty entry, zero, is one of those.
-unfoldable pub answers : Table → ℕ → ℕ → Bool
-answers Register key word = registerEntry word .integer && eqb (registerEntry word .key) key
-answers Predicate key word = predicateEntry word .integer && eqb (predicateEntry word .key) key
+unfoldable pub entryAnswers : Table → ℕ → ℕ → Bool
+entryAnswers Register key word = registerEntry word .integer && eqb (registerEntry word .key) key
+entryAnswers Predicate key word = predicateEntry word .integer && eqb (predicateEntry word .key) key
 
 -- no entry of some indices answers
 abbrev pub NoneAnswers : Table → List ℕ → ℕ → ℕ → ℕ → Type 0
-NoneAnswers table entries key first end = (k : ℕ) → first ≤ k → k < end → answers table key (getD entries k 0) ≡ false
+NoneAnswers table entries key first end =
+    (k : ℕ) → first ≤ k → k < end → entryAnswers table key (getD entries k 0) ≡ false
 
 -- An entry outside the enabled range does not exist for the search.
-unfoldable pub candidate : Table → List ℕ → ℕ → ℕ → ℕ → Bool
-candidate table entries cfg key i = enabled cfg i && answers table key (getD entries i 0)
+unfoldable pub candidate : Table → List ℕ → Range → ℕ → ℕ → Bool
+candidate table entries range key i = inRange range i && entryAnswers table key (getD entries i 0)
 
 -- the highest index below n that passes a test
 unfoldable pub highest : (ℕ → Bool) → ℕ → Held
@@ -31,5 +33,5 @@ highest test zero = Nothing
 highest test (suc n) = cond (test n) (At n) (highest test n)
 
 -- Of several enabled entries with one key the highest index holds.
-unfoldable pub held : Table → List ℕ → ℕ → ℕ → Held
-held table entries cfg key = highest (candidate table entries cfg key) 16
+unfoldable pub heldEntry : Table → List ℕ → Range → ℕ → Held
+heldEntry table entries range key = highest (candidate table entries range key) 16

@@ -2,8 +2,8 @@
 ghost use Prim.Native.Nat.{_+_, _≤_};
 ghost use mathlib.Core.Path.{_≡_};
 ghost use mathlib.Core.Bool.{true};
-ghost use Rattle.search.specs.Search.{answers, held, NoneAnswers};
-use tables::enabled::enabled_range;
+ghost use Rattle.search.specs.Search.{entryAnswers, heldEntry, NoneAnswers};
+use tables::enabled::Range;
 
 pub enum Table {
     Register,
@@ -18,7 +18,7 @@ pub enum Held {
 
 // Whether an entry is an integer one with this key: one comparison of both fields, without the bits between them.
 pub fn entry_answers(table: Table, key: u8, word: u16) -> bool
-    ensures { λ r. ⌜ r ≡ answers table key word ⌝ }
+    ensures { λ r. ⌜ r ≡ entryAnswers table key word ⌝ }
 {
     match table {
         Table::Register => {
@@ -62,13 +62,13 @@ fn reach(table: Table, entries: &[u16; 16], key: u8, end: usize) -> usize
     end
 }
 
-pub fn held_for(table: Table, entries: &[u16; 16], cfg: u32, key: u8) -> Held
-    ensures { λ r. ⌜ r ≡ held table (now (entries .entry)) cfg key ⌝ }
+// The entry of an enabled range that holds for a key.
+pub fn held_entry(table: Table, entries: &[u16; 16], range: Range, key: u8) -> Held
+    requires { ⌜ range .end ≤ 16 ⌝ }
+    ensures { λ r. ⌜ r ≡ heldEntry table (now (entries .entry)) range key ⌝ }
 {
-    let range = enabled_range(cfg);
-    let first = range.first;
     let mut i = reach(table, entries, key, range.end);
-    while first < i {
+    while range.first < i {
         i -= 1;
         if entry_answers(table, key, entries[i]) {
             return Held::At(i);

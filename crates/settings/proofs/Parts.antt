@@ -10,7 +10,7 @@ use native.Mathlib.Omega.{arith}
 use borrow.Author.Tests.{eqb-true, eqb-false}
 use Rattle.machine.specs.declared.Machine.{Machine}
 use Rattle.machine.specs.Shape.{Sized}
-use Rattle.machine.specs.Update.{withRoom, withTables}
+use Rattle.machine.specs.Update.{roomOf, tablesOf, machineWith}
 use Rattle.settings.specs.Copy.{Part, registerEntry, predicateEntry, register, pc, stateWord, IsPart}
 
 pub by-part :
@@ -44,7 +44,7 @@ same-list a b n p q each = ext-getD 0 a b (p ∙ sym q) (λ k h. each k (omega (
 
 pub same-machine : (saved m : Machine) → Sized saved → Sized m → ((p : Part) → IsPart p → Agree saved p m) → m ≡ saved
 same-machine saved m f z all =
-    let same : withTables (withRoom m (m .registers) (m .pc) (m .state)) (m .«register_table») (m .«predicate_table») ≡ saved =
+    let same : machineWith (roomOf m) (tablesOf m) ≡ saved =
     rw (
       same-list (m .registers) (saved .registers) 128 (z .registers) (f .registers) (λ i. all (register i)),
       same-list (m .«register_table») (saved .«register_table») 16 (z .register-table) (f .register-table) (λ i. all (registerEntry i)),

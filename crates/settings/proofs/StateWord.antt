@@ -13,15 +13,15 @@ use Rattle.machine.specs.Calls.{done}
 use Rattle.machine.specs.Shape.{inShape}
 use Rattle.machine.specs.Update.{withState}
 use Rattle.machine.specs.Setting.{setStateWord}
-use Rattle.machine.specs.Reading.{told, readStateWord}
+use Rattle.machine.specs.Reading.{readStateWord}
 use Rattle.machine.proofs.Shapes.{parts}
 use Rattle.settings.specs.Setting.{Accepted}
 use Rattle.settings.specs.StateWord.{StateWordKept}
 use Rattle.settings.proofs.Guards.{by-guard}
-use Rattle.settings.proofs.Settings.{state-kept}
+use Rattle.settings.proofs.Settings.{kept}
 
 pub read-is : (m : Machine) → inShape m ≡ true → readStateWord m ≡ done m (wordOf (m .state))
-unfolding told accepts verdict
+unfolding accepts verdict
 read-is m h = rw h
 
 pub set-is :
@@ -54,7 +54,7 @@ state-word-kept = record {
       let after = cut (fields word) in
       let e = set-is m word (t .0) g in
       let k = word-kept word g in
-      rw (e, read-is (withState m after) (state-kept m (t .0) after k)) (record {
+      rw (e, read-is (withState m after) (kept m _ (t .0) (λ s. k) (λ z. z) (λ c. c))) (record {
         answered = unfold accepts in refl;
         mvl = unfold fields in omega (arith, mvl-back after k);
         vl = unfold fields in omega (arith, vl-back after k);

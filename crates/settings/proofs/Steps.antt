@@ -17,10 +17,10 @@ use Rattle.machine.specs.Calls.{done}
 use Rattle.machine.specs.Shape.{inShape, Sized}
 use Rattle.machine.specs.Update.{withRegisters, withPc, withState, withRegisterTable, withPredicateTable}
 use Rattle.machine.specs.Setting.{setRegisterEntry, setPredicateEntry, setRegister, setPc}
-use Rattle.machine.specs.Reading.{told, readRegisterEntry, readPredicateEntry, readRegister}
+use Rattle.machine.specs.Reading.{readRegisterEntry, readPredicateEntry, readRegister}
 use Rattle.machine.proofs.Shapes.{parts}
 use Rattle.settings.specs.Copy.{Part, registerEntry, predicateEntry, register, pc, stateWord, carried, IsPart}
-use Rattle.settings.proofs.Settings.{registers-kept, tables-kept, pc-kept, state-kept}
+use Rattle.settings.proofs.Settings.{kept}
 use Rattle.settings.proofs.StateWord.{read-is, carried-word}
 use Rattle.settings.proofs.Parts.{by-part, Agree, taken-over}
 
@@ -59,7 +59,7 @@ module _ (saved m : Machine) (s : inShape saved ≡ true) (h : inShape m ≡ tru
           register-table = length-set to i (getD from i 0) ∙ z .register-table;
           predicate-table = z .predicate-table;
         };
-        shaped = tables-kept m h _ _ (parts m h .tables);
+        shaped = kept m next h (λ k. k) (λ o. o) (λ t. t);
         there = getD-set-same to i (getD from i 0) 0 below;
         others = by-part (Kept next) (λ j. taken-over from to i j below) (λ j e. e) (λ j e. e) (λ e. e) (λ e. e);
       }
@@ -80,7 +80,7 @@ module _ (saved m : Machine) (s : inShape saved ≡ true) (h : inShape m ≡ tru
           register-table = z .register-table;
           predicate-table = length-set to i (getD from i 0) ∙ z .predicate-table;
         };
-        shaped = tables-kept m h _ _ (clear-set to i (getD from i 0) clear 16 (parts m h .tables));
+        shaped = kept m next h (λ k. k) (λ o. o) (clear-set to i (getD from i 0) clear 16);
         there = getD-set-same to i (getD from i 0) 0 below;
         others = by-part (Kept next) (λ j e. e) (λ j. taken-over from to i j below) (λ j e. e) (λ e. e) (λ e. e);
       }
@@ -102,18 +102,18 @@ module _ (saved m : Machine) (s : inShape saved ≡ true) (h : inShape m ≡ tru
           register-table = z .register-table;
           predicate-table = z .predicate-table;
         };
-        shaped = registers-kept m h _ (rw (← same) (zero-kept to i (getD from i 0) zeros));
+        shaped = kept m next h (λ k. k) (λ o. rw (← same) (zero-kept to i (getD from i 0) o)) (λ t. t);
         there = getD-set-same to i (getD from i 0) 0 below;
         others = by-part (Kept next) (λ j e. e) (λ j e. e) (λ j. taken-over from to i j below) (λ e. e) (λ e. e);
       }
 
   step-pc : Step saved pc m
-  unfolding told setPc accepts verdict
+  unfolding setPc accepts verdict
   step-pc = record {
     next = withPc m (saved .pc);
     carries = rw (s, h);
     sized = record { registers = z .registers; register-table = z .register-table; predicate-table = z .predicate-table };
-    shaped = pc-kept m h (saved .pc);
+    shaped = kept m _ h (λ k. k) (λ o. o) (λ t. t);
     there = refl;
     others = by-part (Kept (withPc m (saved .pc))) (λ j e. e) (λ j e. e) (λ j e. e) (λ e. refl) (λ e. e);
   }
@@ -124,7 +124,7 @@ module _ (saved m : Machine) (s : inShape saved ≡ true) (h : inShape m ≡ tru
     next = withState m (saved .state);
     carries = rw (read-is saved s) (carried-word saved m s h);
     sized = record { registers = z .registers; register-table = z .register-table; predicate-table = z .predicate-table };
-    shaped = state-kept m h (saved .state) (parts saved s .state);
+    shaped = kept m _ h (λ k. parts saved s .state) (λ o. o) (λ t. t);
     there = refl;
     others = by-part (Kept (withState m (saved .state))) (λ j e. e) (λ j e. e) (λ j e. e) (λ e. e) (λ e. refl);
   }

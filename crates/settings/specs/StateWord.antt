@@ -2,7 +2,7 @@
 use Prim.Native.Nat.{ℕ, _/_, _^_, min}
 use mathlib.Core.Path.{_≡_}
 use mathlib.Core.Bool.{true}
-use Rattle.tables.specs.Bits.{bits}
+use Rattle.bits.specs.Bits.{bits}
 use Rattle.machine.specs.declared.Machine.{Machine}
 use Rattle.machine.specs.declared.Reply.{Reply}
 use Rattle.answers.specs.Answer.{valueOf}

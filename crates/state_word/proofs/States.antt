@@ -5,9 +5,9 @@ use mathlib.Core.Bool.{true}
 use native.Mathlib.Omega.{arith}
 use borrow.Author.Tests.{lt-ltb, le-leb, eq-eqb, leb-true, ltb-true, eqb-true}
 use Rattle.state_word.specs.declared.State.{State}
-use Rattle.tables.specs.Bits.{bits}
+use Rattle.bits.specs.Bits.{bits}
 use Rattle.state_word.specs.State.{stateInShape, withVl, withMvl, withCfg, fields, cut, goodWord}
-use Rattle.tables.proofs.Booleans.{and-left, and-right}
+use Rattle.bits.proofs.Booleans.{and-left, and-right}
 
 -- what being in shape says of the fields
 pub record Bounds (s : State) : Type 0 where

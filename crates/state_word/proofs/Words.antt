@@ -4,7 +4,7 @@ use mathlib.Core.Path.{_≡_, sym, _∙_}
 use mathlib.Core.Bool.{true}
 use native.Mathlib.Omega.{arith}
 use Rattle.state_word.specs.declared.State.{State}
-use Rattle.tables.specs.Bits.{bits}
+use Rattle.bits.specs.Bits.{bits}
 use Rattle.state_word.specs.State.{stateInShape, fields, wordOf, cut, goodWord}
 use Rattle.state_word.proofs.States.{bounds, good, is-good, word-kept}
 
@@ -93,5 +93,5 @@ unfolding fields
 rest-back word h =
     let s = cut (fields word) in
     let k = word-kept word h in
-    let back = packed-above _ _ _ _ _ _ (mvl-fits s k) (vl-fits s k) (omega arith) (omega arith) (omega arith) (packed s k) in
-    back ∙ sym (word-above (word / 4096) _ _ _ (omega arith) (omega arith) (omega arith) (good word h .top))
+    packed-above _ _ _ _ _ _ (mvl-fits s k) (vl-fits s k) (omega arith) (omega arith) (omega arith) (packed s k)
+    ∙ sym (word-above (word / 4096) _ _ _ (omega arith) (omega arith) (omega arith) (good word h .top))

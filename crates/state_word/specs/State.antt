@@ -3,7 +3,7 @@ use Prim.Native.Nat.{ℕ, _+_, _-_, min}
 use mathlib.Core.Bool.{Bool, _&&_}
 use lib.Dec.{eqb, leb, ltb}
 use Rattle.state_word.specs.declared.State.{State}
-use Rattle.tables.specs.Bits.{bits, inBits}
+use Rattle.bits.specs.Bits.{bits, inBits}
 
 -- MVL 1 to 64
 abbrev pub mvlInRange : ℕ → Bool

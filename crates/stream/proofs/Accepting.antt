@@ -1,14 +1,14 @@
--- When a piece is accepted, and a bad record told.
+-- When a piece is accepted, and a bad record printed.
 use Prim.Native.Nat.{ℕ, zero, suc, _+_, _-_, _*_, _/_, _^_, _<_, _≤_}
 use native.Mathlib.Omega.{arith}
 use mathlib.Core.Path.{_≡_, refl, sym}
-use mathlib.Core.Bool.{Bool, true, false, _&&_, _||_}
+use mathlib.Core.Bool.{Bool, true, false, _&&_, _||_, and-eq-true-iff}
 use mathlib.Core.List.{List, [], _∷_}
 use borrow.Author.Tests.{lt-ltb, le-ltb, le-leb, lt-leb, leb-true, leb-false, ltb-true}
 use lib.Dec.{leb, ltb}
 use lib.ListN.{length, take}
 use Rattle.records.specs.declared.reader.Reader.{Reader}
-use Rattle.records.specs.Reader.{readingOf}
+use Rattle.records.specs.Reader.{progressOf}
 use Rattle.text.specs.Lines.{badRecordLine}
 use Rattle.stream.specs.Stream.{badText}
 use Rattle.stream.specs.Feed.{acceptable}
@@ -28,14 +28,6 @@ pub record Accepted (r : Reader) (bytes room : ℕ) : Type 0 where
   pub counted : r .offset + r .length + bytes < 2 ^ 64
   pub roomy : 14 * (bytes + 10) ≤ room
 
-left : (a b : Bool) → a && b ≡ true → a ≡ true
-left true b e = refl
-left false b e = e
-
-right : (a b : Bool) → a && b ≡ true → b ≡ true
-right true b e = e
-right false b e = cc
-
 module _ (r : Reader) (bytes room : ℕ) where
   pub too-long : 10 < r .length → false ≡ acceptable r bytes room
   unfolding acceptable
@@ -45,7 +37,8 @@ module _ (r : Reader) (bytes room : ℕ) where
   unfolding acceptable
   uncounted s h = rw (le-leb (r .length) 10 s, le-ltb (r .offset + r .length + bytes) (2 ^ 64) h)
 
-  pub by-room : r .length ≤ 10 → r .offset + r .length + bytes < 2 ^ 64 → leb (14 * (bytes + 10)) room ≡ acceptable r bytes room
+  pub by-room :
+      r .length ≤ 10 → r .offset + r .length + bytes < 2 ^ 64 → leb (14 * (bytes + 10)) room ≡ acceptable r bytes room
   unfolding acceptable
   by-room s h = rw (le-leb (r .length) 10 s, lt-ltb (r .offset + r .length + bytes) (2 ^ 64) h)
 
@@ -54,12 +47,12 @@ module _ (r : Reader) (bytes room : ℕ) where
   accepted e =
       let a = leb (r .length) 10 in
       let b = ltb (r .offset + r .length + bytes) (2 ^ 64) in
-      let c = leb (14 * (bytes + 10)) room in
-      let ab = left (a && b) c e in
+      let both = and-eq-true-iff (a && b) (leb (14 * (bytes + 10)) room) .0 e in
+      let first = and-eq-true-iff a b .0 (both .0) in
       record {
-        short = leb-true (r .length) 10 (left a b ab);
-        counted = ltb-true (r .offset + r .length + bytes) (2 ^ 64) (right a b ab);
-        roomy = leb-true (14 * (bytes + 10)) room (right (a && b) c e);
+        short = leb-true (r .length) 10 (first .0);
+        counted = ltb-true (r .offset + r .length + bytes) (2 ^ 64) (first .1);
+        roomy = leb-true (14 * (bytes + 10)) room (both .1);
       }
 
 pub no-room : (bytes room : ℕ) → room < 140 → false ≡ leb (14 * (bytes + 10)) room
@@ -76,10 +69,10 @@ some-pending (suc n) [] h = absurd (omega arith)
 some-pending (suc n) (x ∷ l) h = rw (lt-ltb 0 (suc (length (take n l))) (omega arith), lt-ltb 0 (suc n) (omega arith))
 
 module _ (r : Reader) (sized : length (r .kept) ≡ 11) where
-  pub bad : r .stopped || ltb 0 (r .length) ≡ true → badRecordLine (r .offset) ≡ badText (readingOf r)
+  pub bad : r .stopped || ltb 0 (r .length) ≡ true → badRecordLine (r .offset) ≡ badText (progressOf r)
   unfolding badText
   bad e = rw (some-pending (r .length) (r .kept) (omega arith), e)
 
-  pub not-bad : r .stopped || ltb 0 (r .length) ≡ false → [] ≡ badText (readingOf r)
+  pub not-bad : r .stopped || ltb 0 (r .length) ≡ false → [] ≡ badText (progressOf r)
   unfolding badText
   not-bad e = rw (some-pending (r .length) (r .kept) (omega arith), e)

@@ -13,7 +13,8 @@ use Rattle.machine.specs.declared.Reply.{Reply}
 use Rattle.machine.specs.Setting.{setRegisterEntry, setPredicateEntry, setStateWord, setRegister}
 use Rattle.machine.specs.Run.{System, system, run}
 use Rattle.records.specs.declared.record.Record.{Record}
-use Rattle.records.specs.declared.record.Record.the-variants.{RegisterEntry, PredicateEntry, StateWord, Register, Run, Memory}
+use Rattle.records.specs.declared.record.Record.the-variants.{RegisterEntry, PredicateEntry, StateWord}
+use Rattle.records.specs.declared.record.Record.the-variants.{Register, Run, Memory}
 use Rattle.text.specs.Lines.{runLine, refusedLine}
 
 -- a setting call leaves the memory as it is
@@ -28,7 +29,8 @@ storeAnswered store.Outside address = answer.Fault address
 -- 8 bytes of memory
 abbrev pub storing : System → ℕ → ℕ → Outcome Answer System
 storing s address value =
-    outcome (storeAnswered (storeAnswer (s .memory) address 8) address) (system (s .machine) (stored (s .memory) address 8 value))
+    outcome (storeAnswered (storeAnswer (s .memory) address 8) address)
+    (system (s .machine) (stored (s .memory) address 8 value))
 
 -- the answer, and the machine and the memory that are left
 unfoldable pub applied : Record → System → Outcome Answer System
@@ -52,10 +54,11 @@ isRun (Run word allowance) = true
 isRun (Memory address value) = false
 
 -- For a run answer, program counter, source and destination offset, whatever the answer.
-unfoldable pub reportOf : Bool → Answer → ℕ → ℕ → ℕ → List ℕ
-reportOf isRun a pc source destination = cond isRun (runLine (numberOf a) pc source destination) (settingText a)
+unfoldable pub reportText : Bool → Answer → ℕ → ℕ → ℕ → List ℕ
+reportText isRun a pc source destination = cond isRun (runLine (numberOf a) pc source destination) (settingText a)
 
 -- the text of a record, from what it answered and left
 abbrev pub printed : Record → Outcome Answer System → List ℕ
 printed r o =
-    reportOf (isRun r) (o .answer) (o .state .machine .pc) (o .state .machine .state .source) (o .state .machine .state .destination)
+    let m = o .state .machine in
+    reportText (isRun r) (o .answer) (m .pc) (m .state .source) (m .state .destination)

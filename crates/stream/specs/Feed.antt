@@ -6,10 +6,10 @@ use mathlib.Core.List.{List, _++_}
 use lib.Dec.{leb, ltb}
 use lib.ListN.{length, drop}
 use Rattle.machine.specs.declared.Machine.{Machine}
-use Rattle.machine.specs.Run.{System, system}
+use Rattle.machine.specs.Run.{system}
 use Rattle.records.specs.declared.reader.Reader.{Reader}
 use Rattle.records.specs.declared.record.Record.{Record}
-use Rattle.records.specs.Reader.{readingOf}
+use Rattle.records.specs.Reader.{progressOf}
 use Rattle.text.specs.Put.{Put}
 use Rattle.stream.specs.declared.feed.Text.{Text}
 use Rattle.stream.specs.declared.feed.Text.the-variants.{Written, NoRoom}
@@ -18,12 +18,13 @@ use Rattle.stream.specs.declared.feed.Applied.{Applied}
 use Rattle.stream.specs.Apply.{applied, printed}
 use Rattle.stream.specs.Stream.{Stream, stream, fed, lastText}
 
--- Room for all that some bytes may print: every record has at least 4 bytes and prints at most 54, and 10 bytes of the first may have come before.
+-- Room for all that some bytes may print: every record has at least 4 bytes and prints at most 54, and 10 bytes of the
+-- first may have come before.
 abbrev pub pieceRoom : ℕ → ℕ
 pieceRoom bytes = 14 * (bytes + 10)
 
--- A piece is accepted from a reader that holds an unfinished record and has counted less than 2 ^ 64 bytes with the piece, and into
--- enough room.
+-- A piece is accepted from a reader that holds an unfinished record and has counted less than 2 ^ 64 bytes with the
+-- piece, and into enough room.
 unfoldable pub acceptable : Reader → ℕ → ℕ → Bool
 acceptable r bytes room =
     leb (r .length) 10 && ltb (r .offset + r .length + bytes) (2 ^ 64) && leb (pieceRoom bytes) room
@@ -32,7 +33,8 @@ acceptable r bytes room =
 abbrev pub over : List ℕ → List ℕ → List ℕ
 over text out = text ++ drop (length text) out
 
--- What a call answers and leaves: the stream, how many bytes of it are pending, and the bytes that were lent for the text.
+-- What a call answers and leaves: the stream, how many bytes of it are pending, and the bytes that were lent for the
+-- text.
 pub record Feed : Type 0 where
   pub text : Text
   pub stream : Stream
@@ -43,26 +45,27 @@ abbrev pub feedWith : Text → Stream → ℕ → List ℕ → Feed
 feedWith text stream pending out = record { text = text; stream = stream; pending = pending; out = out }
 
 abbrev pub streamOf : Reader → Machine → List ℕ → Stream
-streamOf r m memory = stream (readingOf r) (system m memory)
+streamOf r m memory = stream (progressOf r) (system m memory)
 
 abbrev pub feedResult : declared.Fed → List ℕ → List ℕ → Feed
 feedResult f memory out = feedWith (f .text) (streamOf (f .reader) (f .machine) memory) (f .reader .length) out
 
-unfoldable pub acceptedFeed : Reader → Machine → List ℕ → List ℕ → List ℕ → Feed
-acceptedFeed r m piece memory out =
+unfoldable pub fedAccepted : Reader → Machine → List ℕ → List ℕ → List ℕ → Feed
+fedAccepted r m piece memory out =
     let f = fed (streamOf r m memory) piece in
-    feedWith (Written (length (f .text))) (f .stream) (length (f .stream .reading .pending)) (over (f .text) out)
+    feedWith (Written (length (f .text))) (f .stream) (length (f .stream .progress .pending)) (over (f .text) out)
 
 -- a refusal changes nothing
-unfoldable pub feedOf : Reader → Machine → List ℕ → List ℕ → List ℕ → Feed
-feedOf r m piece memory out =
+unfoldable pub fedInto : Reader → Machine → List ℕ → List ℕ → List ℕ → Feed
+fedInto r m piece memory out =
     cond (acceptable r (length piece) (length out))
-    (acceptedFeed r m piece memory out)
+    (fedAccepted r m piece memory out)
     (feedWith NoRoom (streamOf r m memory) (r .length) out)
 
 -- a record applied and printed
-pub record Applying (m : Machine) (r : Record) (memory out : List ℕ) (at : ℕ) (a : Applied) (memory′ out′ : List ℕ) : Type 0 where
-  pub left : system (a .machine) memory′ ≡ applied r (system m memory) .state
+pub record Applying (m : Machine) (r : Record) (memory out : List ℕ) (at : ℕ) (a : Applied) (memory′ out′ : List ℕ) :
+    Type 0 where
+  pub state : system (a .machine) memory′ ≡ applied r (system m memory) .state
   pub text : Put out at (printed r (applied r (system m memory))) out′ (a .at)
   pub room : a .at ≤ at + 54
 
@@ -86,5 +89,5 @@ writtenInto room text out = writtenIf (leb room (length out)) text out
 abbrev pub lastRoom : ℕ
 lastRoom = 3363
 
-unfoldable pub finishOf : Reader → Machine → List ℕ → TextOut
-finishOf r m out = writtenInto lastRoom (lastText (readingOf r) (m .registers)) out
+unfoldable pub finishedInto : Reader → Machine → List ℕ → TextOut
+finishedInto r m out = writtenInto lastRoom (lastText (progressOf r) (m .registers)) out

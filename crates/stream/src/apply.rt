@@ -10,7 +10,7 @@ use memory::store::store;
 use records::record::Record;
 use scalar::width::Width;
 
-fn store_answer(stored: Stored, address: u64) -> Answer
+fn store_answered(stored: Stored, address: u64) -> Answer
     ensures { λ r. ⌜ r ≡ storeAnswered stored address ⌝ }
 {
     match stored {
@@ -21,7 +21,10 @@ fn store_answer(stored: Stored, address: u64) -> Answer
 
 // A record applied: a setting call, a run or a store.
 pub(crate) fn apply(machine: Machine, record: Record, memory: &mut [u8]) -> Reply
-    ensures { λ r. ⌜ outcome (r .answer) (system (r .machine) (now (memory .exit))) ≡ applied «record» (system machine (now (memory .entry))) ⌝ }
+    ensures { λ r. ⌜
+        outcome (r .answer) (system (r .machine) (now (memory .exit)))
+        ≡ applied «record» (system machine (now (memory .entry)))
+        ⌝ }
 {
     match record {
         Record::RegisterEntry(index, entry) => machine.set_register_entry(index as u32, entry),
@@ -32,7 +35,7 @@ pub(crate) fn apply(machine: Machine, record: Record, memory: &mut [u8]) -> Repl
         Record::Memory(address, value) => {
             let stored = store(memory, address as u64, Width::Double, value);
             Reply {
-                answer: store_answer(stored, address as u64),
+                answer: store_answered(stored, address as u64),
                 machine,
             }
         }

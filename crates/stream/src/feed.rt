@@ -2,7 +2,7 @@ ghost use mathlib.Core.Path.{_≡_};
 ghost use mathlib.Core.Bool.{true};
 ghost use Prim.Native.Nat.{_+_, _≤_};
 ghost use lib.ListN.{length};
-ghost use Rattle.stream.specs.Feed.{acceptable, Applying, feedOf, feedResult, acceptedFeed};
+ghost use Rattle.stream.specs.Feed.{acceptable, Applying, fedInto, feedResult, fedAccepted};
 use crate::apply::apply;
 use crate::report::is_run;
 use crate::report::put_report;
@@ -18,7 +18,7 @@ pub enum Text {
     NoRoom,
 }
 
-// What was written, and where the stream stands after it.
+// What was written, and the reader and the machine after it.
 pub struct Fed {
     pub text: Text,
     pub reader: Reader,
@@ -32,17 +32,17 @@ pub struct Applied {
 
 // Whether a reader can take so many bytes, and so much room holds all that
 // they may print: 56 bytes for every 4.
-fn is_acceptable(reader: Reader, bytes: usize, room: usize) -> bool
+fn acceptable(reader: Reader, bytes: usize, room: usize) -> bool
     ensures { λ r. ⌜ r ≡ acceptable reader bytes room ⌝ }
 {
     if 10 < reader.length {
         return false;
     }
-    let left = u64::MAX - reader.offset;
-    if left < reader.length as u64 {
+    let remaining = u64::MAX - reader.offset;
+    if remaining < reader.length as u64 {
         return false;
     }
-    if left - (reader.length as u64) < bytes as u64 {
+    if remaining - (reader.length as u64) < bytes as u64 {
         return false;
     }
     if room < 140 {
@@ -60,7 +60,9 @@ fn apply_and_print(
     at: usize,
 ) -> Applied
     requires { ⌜ at + 54 ≤ length (now out) ⌝ }
-    ensures { λ r. ⌜ Applying machine «record» (now (memory .entry)) (now (out .entry)) at r (now (memory .exit)) (now (out .exit)) ⌝ }
+    ensures { λ r. ⌜
+        Applying machine «record» (now (memory .entry)) (now (out .entry)) at r (now (memory .exit)) (now (out .exit))
+        ⌝ }
 {
     let reply = apply(machine, record, memory);
     let answer = reply.answer;
@@ -80,7 +82,7 @@ fn apply_and_print(
     }
 }
 
-fn feed_acceptable(
+fn feed_accepted(
     start: Reader,
     first: Machine,
     piece: &[u8],
@@ -88,14 +90,17 @@ fn feed_acceptable(
     out: &mut [u8],
 ) -> Fed
     requires { ⌜ acceptable start (length (now piece)) (length (now out)) ≡ true ⌝ }
-    ensures { λ r. ⌜ feedResult r (now (memory .exit)) (now (out .exit)) ≡ acceptedFeed start first (now (piece .entry)) (now (memory .entry)) (now (out .entry)) ⌝ }
+    ensures { λ r. ⌜
+        feedResult r (now (memory .exit)) (now (out .exit))
+        ≡ fedAccepted start first (now (piece .entry)) (now (memory .entry)) (now (out .entry))
+        ⌝ }
 {
     let mut reader = start;
     let mut machine = first;
     let mut i: usize = 0;
     let mut at: usize = 0;
     loop {
-        let found = reader.read(piece, i);
+        let found = reader.find(piece, i);
         reader = found.reader;
         i = found.at;
         let event = found.event;
@@ -121,10 +126,13 @@ pub fn feed(
     memory: &mut [u8],
     out: &mut [u8],
 ) -> Fed
-    ensures { λ r. ⌜ feedResult r (now (memory .exit)) (now (out .exit)) ≡ feedOf reader machine (now (piece .entry)) (now (memory .entry)) (now (out .entry)) ⌝ }
+    ensures { λ r. ⌜
+        feedResult r (now (memory .exit)) (now (out .exit))
+        ≡ fedInto reader machine (now (piece .entry)) (now (memory .entry)) (now (out .entry))
+        ⌝ }
 {
-    if is_acceptable(reader, piece.len(), out.len()) {
-        return feed_acceptable(reader, machine, piece, memory, out);
+    if acceptable(reader, piece.len(), out.len()) {
+        return feed_accepted(reader, machine, piece, memory, out);
     }
     Fed {
         text: Text::NoRoom,

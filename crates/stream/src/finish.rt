@@ -1,10 +1,10 @@
 ghost use mathlib.Core.Path.{_≡_};
-ghost use Prim.Native.Nat.{_+_, _≤_};
+ghost use Prim.Native.Nat.{_≤_};
 ghost use lib.ListN.{length};
-ghost use Rattle.records.specs.Reader.{readingOf};
+ghost use Rattle.records.specs.Reader.{progressOf};
 ghost use Rattle.text.specs.Put.{Put};
 ghost use Rattle.stream.specs.Stream.{badText};
-ghost use Rattle.stream.specs.Feed.{textOut, finishOf};
+ghost use Rattle.stream.specs.Feed.{textOut, finishedInto};
 use crate::feed::Text;
 use machine::Machine;
 use records::reader::Reader;
@@ -13,7 +13,7 @@ use text::lines::put_registers;
 
 fn put_bad(out: &mut [u8], reader: Reader) -> usize
     requires { ⌜ 35 ≤ length (now out) ⌝ }
-    ensures { λ r. ⌜ Put (now (out .entry)) 0 (badText (readingOf reader)) (now (out .exit)) r × (r ≤ 35) ⌝ }
+    ensures { λ r. ⌜ Put (now (out .entry)) 0 (badText (progressOf reader)) (now (out .exit)) r × (r ≤ 35) ⌝ }
 {
     if reader.stopped | (0 < reader.length) {
         return put_bad_record(out, 0, reader.offset);
@@ -27,7 +27,7 @@ pub const LAST_ROOM: usize = 3363;
 // At the end of a stream, writes what it prints last. It is refused, and
 // nothing is written, where `out` might be too short.
 pub fn finish(reader: Reader, machine: Machine, out: &mut [u8]) -> Text
-    ensures { λ r. ⌜ textOut r (now (out .exit)) ≡ finishOf reader machine (now (out .entry)) ⌝ }
+    ensures { λ r. ⌜ textOut r (now (out .exit)) ≡ finishedInto reader machine (now (out .entry)) ⌝ }
 {
     if out.len() < LAST_ROOM {
         return Text::NoRoom;

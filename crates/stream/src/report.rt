@@ -2,7 +2,7 @@ ghost use Prim.Native.Nat.{_+_, _≤_};
 ghost use mathlib.Core.Path.{_≡_};
 ghost use lib.ListN.{length};
 ghost use Rattle.text.specs.Put.{Put};
-ghost use Rattle.stream.specs.Apply.{settingText, isRun, reportOf};
+ghost use Rattle.stream.specs.Apply.{settingText, isRun, reportText};
 use answers::Answer;
 use records::record::Record;
 use text::lines::put_refused;
@@ -43,7 +43,9 @@ pub(crate) fn put_report(
     destination: u32,
 ) -> usize
     requires { ⌜ at + 54 ≤ length (now out) ⌝ }
-    ensures { λ r. ⌜ Put (now (out .entry)) at (reportOf run answer pc source destination) (now (out .exit)) r × (r ≤ at + 54) ⌝ }
+    ensures { λ r. ⌜
+        Put (now (out .entry)) at (reportText run answer pc source destination) (now (out .exit)) r × (r ≤ at + 54)
+        ⌝ }
 {
     if run {
         return put_run(out, at, answer.number(), pc, source, destination);

@@ -7,7 +7,7 @@ use Rattle.compute.specs.Compute.{computed}
 use Rattle.scalar.specs.Signed.{signExtended}
 use Rattle.tables.specs.Enabled.{enabledRange}
 use Rattle.tables.specs.Entry.{clearBelow}
-use Rattle.search.specs.Search.{answers, candidate, highest, held}
+use Rattle.search.specs.Search.{entryAnswers, candidate, highest, heldEntry}
 use Rattle.state_word.specs.State.{stateInShape, fields, goodWord}
 use Rattle.memory.specs.Access.{inside, located}
 use Rattle.memory.specs.LittleEndian.{number}
@@ -21,27 +21,36 @@ use Rattle.pairs.specs.Side.{start, next, past}
 use Rattle.pairs.specs.Pair.{firstOn, skipped, pairFrom}
 use Rattle.pausable.specs.Walk.{walk}
 use Rattle.pausable.specs.Call.{begun}
-use Rattle.walk.specs.Operation.{elementOf, goOn, afterOn, positionDone, operationUnit}
+use Rattle.walk.specs.Operation.{elementOf, registersAfter, goOn, afterOn, positionAfter, operationUnit}
 use Rattle.transfers.specs.Transfer.{pairOf, afterPair, settled, atPair, transferUnit}
 use Rattle.transfers.specs.Moving.{moveElement, moveUnit}
 use Rattle.accesses.specs.Loading.{addressAt, loadElement, loadUnit}
-use Rattle.plans.specs.Operands.{every, narrow, fitting}
+use Rattle.plans.specs.Operands.{defaultWidth, fitting, checkedOperands}
+use Rattle.bits.specs.Lists.{all}
 use Rattle.plans.specs.Plan.{operationPlan, movePlan, loadPlan}
 use Rattle.handler.specs.Prepare.{served, prepared}
 use Rattle.machine.specs.Shape.{inShape, roomInShape, tablesInShape}
 use Rattle.machine.specs.Setting.{setStateWord, setRegisterEntry, setRegister}
 use Rattle.machine.specs.Run.{prepare, unit, run}
 use Rattle.memory.specs.Transfer.{storeAnswer, stored}
-use Rattle.records.specs.Record.{layouts, layoutOf, madeOf, bodyAt, nextRecord}
-use Rattle.records.specs.Reading.{taken}
+use Rattle.records.specs.Record.{layouts, layoutOf, servedLayout, recordOf, bodyAt, nextRecord}
+use Rattle.records.specs.Progress.{taken}
 use Rattle.text.specs.Decimal.{digits, decimal}
 use Rattle.text.specs.Lines.{runLine, refusedLine, badRecordLine, registerLine, nonzeroLine, linesBelow}
-use Rattle.stream.specs.Apply.{applied, settingText, reportOf}
+use Rattle.stream.specs.Apply.{applied, settingText, reportText}
 use Rattle.stream.specs.Stream.{fedEvent, fed, badText, output}
 use Rattle.stream_claims.specs.Example.{exampleBytes, exampleText, Outputs}
 
 pub outputs : Outputs
-unfolding accepts pauses verdict written computed signExtended enabledRange clearBelow answers candidate highest held stateInShape fields goodWord inside located number loaded funct3Rows funct6Rows funct7Rows firstForm lookUp named decoded decodedAs compressedMove registerAt fits onBits maskBy isOn start next past firstOn skipped pairFrom walk begun elementOf goOn afterOn positionDone operationUnit pairOf afterPair settled atPair transferUnit moveElement moveUnit addressAt loadElement loadUnit every narrow fitting operationPlan movePlan loadPlan served prepared inShape roomInShape tablesInShape setStateWord setRegisterEntry setRegister prepare unit run storeAnswer stored layouts layoutOf madeOf bodyAt nextRecord taken digits decimal runLine refusedLine badRecordLine registerLine nonzeroLine linesBelow applied settingText reportOf fedEvent fed badText output exampleBytes exampleText
+unfolding accepts pauses verdict written computed signExtended enabledRange clearBelow entryAnswers candidate highest
+    heldEntry stateInShape fields goodWord inside located number loaded funct3Rows funct6Rows funct7Rows firstForm
+    lookUp named decoded decodedAs compressedMove registerAt fits onBits maskBy isOn start next past firstOn skipped
+    pairFrom walk begun elementOf registersAfter goOn afterOn positionAfter operationUnit pairOf afterPair settled
+    atPair transferUnit moveElement moveUnit addressAt loadElement loadUnit all defaultWidth fitting checkedOperands
+    operationPlan movePlan loadPlan served prepared inShape roomInShape tablesInShape setStateWord setRegisterEntry
+    setRegister prepare unit run storeAnswer stored layouts layoutOf servedLayout recordOf bodyAt nextRecord taken
+    digits decimal runLine refusedLine badRecordLine registerLine nonzeroLine linesBelow applied settingText
+    reportText fedEvent fed badText output exampleBytes exampleText
 outputs = record {
   example = refl;
   empty = refl;
@@ -51,4 +60,6 @@ outputs = record {
   cut-later = refl;
   no-entry = refl;
   outside = refl;
+  run-not-served = refl;
+  cut-run-not-served = refl;
 }

@@ -2,7 +2,10 @@
 use Prim.Native.Nat.{ℕ}
 use mathlib.Core.Path.{_≡_}
 use mathlib.Core.List.{List, [], _∷_}
-use Rattle.stream.specs.Stream.{output}
+use mathlib.Core.Bool.{false}
+use Rattle.stream.specs.Stream.{fed, freshStream, output}
+use Rattle.stream_claims.specs.Pieces.{outputOf}
+use Rattle.stream_claims.specs.ByRecord.{between}
 
 -- 03 C3000018, 01 00 85A8, 01 01 86B2, 04 07 .., 04 32 .. to 04 35 .., 05 B3027300 FFFF
 unfoldable pub exampleBytes : List ℕ
@@ -39,7 +42,10 @@ badAt0 = 98 ∷ 97 ∷ 100 ∷ 32 ∷ 114 ∷ 101 ∷ 99 ∷ 111 ∷ 114 ∷ 100
 
 -- "bad record at 10", "x1 7"
 abbrev pub badAt10 : List ℕ
-badAt10 = 98 ∷ 97 ∷ 100 ∷ 32 ∷ 114 ∷ 101 ∷ 99 ∷ 111 ∷ 114 ∷ 100 ∷ 32 ∷ 97 ∷ 116 ∷ 32 ∷ 49 ∷ 48 ∷ 10 ∷ 120 ∷ 49 ∷ 32 ∷ 55 ∷ 10 ∷ []
+badAt10 =
+    98 ∷ 97 ∷ 100 ∷ 32 ∷ 114 ∷ 101 ∷ 99 ∷ 111 ∷ 114 ∷ 100 ∷ 32 ∷ 97 ∷ 116 ∷ 32 ∷ 49 ∷ 48 ∷ 10
+    ∷ 120 ∷ 49 ∷ 32 ∷ 55 ∷ 10
+    ∷ []
 
 -- "refused 5"
 abbrev pub refused5 : List ℕ
@@ -53,15 +59,26 @@ refused8 = 114 ∷ 101 ∷ 102 ∷ 117 ∷ 115 ∷ 101 ∷ 100 ∷ 32 ∷ 56 ∷
 abbrev pub setX1 : List ℕ → List ℕ
 setX1 rest = 0x04 ∷ 0x01 ∷ 0x07 ∷ 0 ∷ 0 ∷ 0 ∷ 0 ∷ 0 ∷ 0 ∷ 0 ∷ rest
 
+-- run x5, x6, x7 added, allowed 65,535
+abbrev pub runAdd : List ℕ
+runAdd = 0x05 ∷ 0xB3 ∷ 0x02 ∷ 0x73 ∷ 0x00 ∷ 0xFF ∷ 0xFF ∷ []
+
+-- the output of a stream in which run records are not served
+abbrev pub outputWithoutRuns : List ℕ → List ℕ
+outputWithoutRuns bytes = outputOf (fed (between false 0 (freshStream .system)) bytes)
+
 pub record Outputs : Type 0 where
   pub example : output exampleBytes ≡ exampleText
   pub empty : output [] ≡ []
   -- an unknown kind, first and after a record; what follows it is not read
   pub unknown-first : output (0x00 ∷ 0x04 ∷ []) ≡ badAt0
-  pub unknown-later : output (setX1 (0x07 ∷ setX1 [])) ≡ badAt10
+  pub unknown-later : output (setX1 (0x7F ∷ setX1 [])) ≡ badAt10
   -- a record cut after its kind, and before its last byte
   pub cut-first : output (0x05 ∷ []) ≡ badAt0
   pub cut-later : output (setX1 (0x03 ∷ 0xC3 ∷ 0x00 ∷ 0x00 ∷ [])) ≡ badAt10
   -- register entry 16; a memory record at 4,089
   pub no-entry : output (0x01 ∷ 0x10 ∷ 0x00 ∷ 0x00 ∷ []) ≡ refused8
   pub outside : output (0x06 ∷ 0xF9 ∷ 0x0F ∷ 1 ∷ 0 ∷ 0 ∷ 0 ∷ 0 ∷ 0 ∷ 0 ∷ 0 ∷ []) ≡ refused5
+  -- where they are not served, a run record is bad, whole and cut
+  pub run-not-served : outputWithoutRuns (setX1 runAdd) ≡ badAt10
+  pub cut-run-not-served : outputWithoutRuns (setX1 (0x05 ∷ [])) ≡ badAt10

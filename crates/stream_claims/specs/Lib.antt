@@ -1,3 +1,4 @@
-pub mod Example
 pub mod Pieces
 pub mod ByRecord
+pub mod Example
+pub mod WithoutRuns

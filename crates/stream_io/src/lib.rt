@@ -1,10 +1,11 @@
 // A record stream read from a descriptor, applied to a fresh machine, and what it prints written to standard output.
 ghost use mathlib.Core.Path.{_≡_};
 ghost use lib.ListN.{length, replicate};
-ghost use Rattle.records.specs.Reader.{readingOf};
+ghost use Rattle.records.specs.Reader.{progressOf};
+ghost use Rattle.stream.specs.Feed.{streamOf};
 ghost use Rattle.stream.specs.Stream.{lastText};
 ghost use Rattle.stream.specs.declared.feed.Text.the-variants.{Written};
-ghost use Rattle.stream_io.specs.Output.{Next, Holds, Sends, Whole};
+ghost use Rattle.stream_io.specs.Output.{Next, Holds, Sends, Whole, Reached, Turned};
 use libc::STDIN_FILENO;
 use libc::STDOUT_FILENO;
 use machine::Machine;
@@ -18,6 +19,15 @@ pub enum Sent {
     Upto(u64),
     // The rest can't be read or written.
     Stopped,
+}
+
+// What the runner has after a turn.
+pub struct Turn {
+    pub reader: Reader,
+    pub machine: Machine,
+    pub sent: Sent,
+    // No piece follows.
+    pub last: bool,
 }
 
 // Writes to standard output the bytes of the output that follow the first `written`.
@@ -50,14 +60,38 @@ fn write_text(written: u64, text: Text, out: &[u8]) -> Sent
 
 // Writes what the end of the stream prints.
 fn write_last(reader: Reader, machine: Machine, written: u64, out: &mut [u8]) -> Sent
-    requires { ⌜ Next written (lastText (readingOf reader) (machine .registers)) ⌝ }
-    ensures { λ r. ⌜ Sends written (Written (length (lastText (readingOf reader) (machine .registers)))) r ⌝ }
+    requires { ⌜ Next written (lastText (progressOf reader) (machine .registers)) ⌝ }
+    ensures { λ r. ⌜ Sends written (Written (length (lastText (progressOf reader) (machine .registers)))) r ⌝ }
 {
     let text = finish(reader, machine, out);
     write_text(written, text, out)
 }
 
-// The next piece. There is none where reading has stopped.
+// Feeds a piece, and writes what it prints.
+fn feed_and_write(
+    reader: Reader,
+    machine: Machine,
+    written: u64,
+    piece: &[u8],
+    memory: &mut [u8],
+    out: &mut [u8],
+) -> Turn
+    requires { ⌜ Reached (streamOf reader machine (now memory)) written ⌝ }
+    ensures { λ r. ⌜ Turned r (now (memory .exit)) ⌝ }
+{
+    let fed = feed(reader, machine, piece, memory, out);
+    let reader = fed.reader;
+    let machine = fed.machine;
+    let text = fed.text;
+    Turn {
+        reader,
+        machine,
+        sent: write_text(written, text, out),
+        last: false,
+    }
+}
+
+// The next piece. There is none once the reader has stopped.
 fn read_piece(fd: i32, stopped: bool, piece: &mut [u8]) -> isize {
     if stopped {
         return 0;
@@ -73,8 +107,42 @@ fn say_unread(fd: i32) {
     os::fail(b"stream");
 }
 
-// Piece after piece: `written` bytes are all that the stream has printed so far.
-// A proved loop has to end, and nothing says that the input does: so it counts its turns down,
+// The next piece, or the end: `written` bytes are all that the stream has printed so far.
+fn take_turn(
+    fd: i32,
+    reader: Reader,
+    machine: Machine,
+    written: u64,
+    memory: &mut [u8],
+    out: &mut [u8],
+) -> Turn
+    requires { ⌜ Reached (streamOf reader machine (now memory)) written ⌝ }
+    ensures { λ r. ⌜ Turned r (now (memory .exit)) ⌝ }
+{
+    let mut piece = io::buffer();
+    let got = read_piece(fd, reader.stopped, &mut piece);
+    if got < 0 {
+        say_unread(fd);
+        return Turn {
+            reader,
+            machine,
+            sent: Sent::Stopped,
+            last: true,
+        };
+    }
+    if got == 0 {
+        return Turn {
+            reader,
+            machine,
+            sent: write_last(reader, machine, written, out),
+            last: true,
+        };
+    }
+    let n = io::count(got, &piece);
+    feed_and_write(reader, machine, written, &piece[..n], memory, out)
+}
+
+// Piece after piece. A proved loop has to end, and nothing says that the input does: so it counts its turns down,
 // from a number that no run uses up.
 fn run(fd: i32, memory: &mut [u8], out: &mut [u8]) -> Sent
     requires { ⌜ now memory ≡ replicate 4096 0 ⌝ }
@@ -85,24 +153,16 @@ fn run(fd: i32, memory: &mut [u8], out: &mut [u8]) -> Sent
     let mut written: u64 = 0;
     let mut turns = u64::MAX;
     while turns > 0 {
-        let mut piece = io::buffer();
-        let got = read_piece(fd, reader.stopped, &mut piece);
-        if got < 0 {
-            say_unread(fd);
-            return Sent::Stopped;
+        let turn = take_turn(fd, reader, machine, written, memory, out);
+        let sent = turn.sent;
+        if turn.last {
+            return sent;
         }
-        if got == 0 {
-            return write_last(reader, machine, written, out);
-        }
-        let n = io::count(got, &piece);
-        let fed = feed(reader, machine, &piece[..n], memory, out);
-        reader = fed.reader;
-        machine = fed.machine;
-        let text = fed.text;
-        let sent = write_text(written, text, out);
         let Sent::Upto(next) = sent else {
             return Sent::Stopped;
         };
+        reader = turn.reader;
+        machine = turn.machine;
         written = next;
         turns -= 1;
     }

@@ -9,16 +9,19 @@ use lib.Seq.{set-out, getD-set-same, getD-set-other}
 use native.Mathlib.Omega.{arith}
 use borrow.Author.Tests.{eqb-true, eqb-false, ltb-true, ltb-false}
 use Rattle.tables.specs.Entry.{bit0Clear, clearBelow}
-use Rattle.tables.proofs.Booleans.{and-left, and-right}
+use Rattle.bits.proofs.Booleans.{and-left, and-right}
 
 module _ (entries : List ℕ) (i entry : ℕ) (clear : bit0Clear entry ≡ true) where
   -- each entry is the new one or an old one
   set-at : (k : ℕ) → bit0Clear (getD entries k 0) ≡ true → bit0Clear (getD (set entries i entry) k 0) ≡ true
   set-at k old = by (eqb k i) refl (ltb i (length entries)) refl
     where
-      by : (same : Bool) → eqb k i ≡ same → (inside : Bool) → ltb i (length entries) ≡ inside → bit0Clear (getD (set entries i entry) k 0) ≡ true
+      by :
+          (same : Bool) → eqb k i ≡ same → (inside : Bool) → ltb i (length entries) ≡ inside →
+          bit0Clear (getD (set entries i entry) k 0) ≡ true
       by false other inside e = rw (getD-set-other entries i k entry 0 (eqb-false k i other)) old
-      by true same true e = rw (eqb-true k i same, getD-set-same entries i entry 0 (ltb-true i (length entries) e)) clear
+      by true same true e =
+          rw (eqb-true k i same, getD-set-same entries i entry 0 (ltb-true i (length entries) e)) clear
       by true same false e = rw (set-out entries i entry (ltb-false i (length entries) e)) old
 
   pub clear-set : (n : ℕ) → clearBelow n entries ≡ true → clearBelow n (set entries i entry) ≡ true
@@ -28,7 +31,8 @@ module _ (entries : List ℕ) (i entry : ℕ) (clear : bit0Clear entry ≡ true)
       rw (clear-set n (and-left _ _ h), set-at n (and-right (clearBelow n entries) _ h))
 
 -- one entry of a table that passes
-pub clear-at : (n : ℕ) (entries : List ℕ) (k : ℕ) → k < n → clearBelow n entries ≡ true → bit0Clear (getD entries k 0) ≡ true
+pub clear-at :
+    (n : ℕ) (entries : List ℕ) (k : ℕ) → k < n → clearBelow n entries ≡ true → bit0Clear (getD entries k 0) ≡ true
 unfolding clearBelow
 clear-at zero entries k l h = absurd (omega arith)
 clear-at (suc n) entries k l h = by (eqb k n) refl (λ m. clear-at n entries k m (and-left _ _ h))

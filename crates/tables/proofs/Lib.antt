@@ -1,3 +1,2 @@
-pub mod Booleans
 pub mod Clear
 pub mod Ranges

@@ -3,7 +3,7 @@ use Prim.Native.Nat.{ℕ, _+_, _*_, _^_, min}
 use mathlib.Core.Bool.{Bool, cond, _&&_}
 use lib.Dec.{eqb, leb, ltb}
 use Rattle.tables.specs.declared.enabled.Range.{Range}
-use Rattle.tables.specs.Bits.{bits}
+use Rattle.bits.specs.Bits.{bits}
 
 -- CFG: bits 2..0 bank, bits 4..3 size
 abbrev pub bank : ℕ → ℕ
@@ -19,5 +19,6 @@ enabledRange cfg = record {
   end = cond (eqb cfg 31) (2 * bank cfg) (min 16 (2 * bank cfg + 2 ^ (size cfg + 1)));
 }
 
-abbrev pub enabled : ℕ → ℕ → Bool
-enabled cfg i = leb (enabledRange cfg .first) i && ltb i (enabledRange cfg .end)
+-- an index that lies in a range
+abbrev pub inRange : Range → ℕ → Bool
+inRange range i = leb (range .first) i && ltb i (range .end)

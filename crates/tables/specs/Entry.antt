@@ -5,7 +5,7 @@ use mathlib.Core.List.{List}
 use lib.ListN.{getD}
 use Rattle.tables.specs.declared.entry.RegisterEntry.{RegisterEntry}
 use Rattle.tables.specs.declared.entry.PredicateEntry.{PredicateEntry}
-use Rattle.tables.specs.Bits.{bits, bit}
+use Rattle.bits.specs.Bits.{bits, bit}
 
 -- bit 15 vector, bits 14..8 real register, bit 7 one for integer, bits 6..5 width, bits 4..0 key
 abbrev pub registerEntry : ℕ → RegisterEntry

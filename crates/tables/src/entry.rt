@@ -2,6 +2,7 @@
 ghost use mathlib.Core.Path.{_≡_};
 ghost use lib.ListN.{getD, set};
 ghost use Rattle.tables.specs.Entry.{registerEntry, predicateEntry, allBit0Clear};
+use crate::ENTRIES;
 
 pub struct RegisterEntry {
     pub vector: bool,
@@ -48,7 +49,7 @@ impl PredicateEntry {
 }
 
 // Whether bit 0 of every predicate entry is zero.
-pub fn all_bit0_clear(entries: &[u16; 16]) -> bool
+pub fn all_bit0_clear(entries: &[u16; ENTRIES]) -> bool
     ensures { λ r. ⌜ r ≡ allBit0Clear (now (entries .entry)) ⌝ }
 {
     let mut clear = true;
@@ -61,7 +62,7 @@ pub fn all_bit0_clear(entries: &[u16; 16]) -> bool
 }
 
 // The entry at an index, and 0 where there is none.
-pub fn entry_at(entries: [u16; 16], index: u32) -> u16
+pub fn entry_at(entries: [u16; ENTRIES], index: u32) -> u16
     ensures { λ r. ⌜ r ≡ getD entries index 0 ⌝ }
 {
     if 16 <= index {
@@ -71,7 +72,7 @@ pub fn entry_at(entries: [u16; 16], index: u32) -> u16
 }
 
 // The table with one entry replaced.
-pub fn with_entry(mut entries: [u16; 16], index: u32, entry: u16) -> [u16; 16]
+pub fn with_entry(mut entries: [u16; ENTRIES], index: u32, entry: u16) -> [u16; ENTRIES]
     ensures { λ r. ⌜ r ≡ set entries index entry ⌝ }
 {
     if 16 <= index {

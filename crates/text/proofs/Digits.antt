@@ -1,11 +1,11 @@
 -- The digits of a number: the last, those before it, and how many.
-use Prim.Native.Nat.{ℕ, zero, suc, _+_, _/_, _%_, _^_, _*_, _<_, _≤_}
+use Prim.Native.Nat.{ℕ, zero, suc, _+_, _/_, _%_, _^_, _<_, _≤_}
 use native.Mathlib.Nat.{pow-suc}
 use native.Mathlib.Omega.{arith}
 use mathlib.Core.Path.{_≡_, refl, sym, ap, _∙_}
 use mathlib.Core.Bool.{Bool, true, false, cond}
 use mathlib.Core.List.{List, [], _∷_, _++_}
-use borrow.Author.Tests.{lt-ltb, le-ltb, ltb-true, ltb-false}
+use borrow.Author.Tests.{lt-ltb, le-ltb, ltb-false}
 use lib.Dec.{ltb}
 use lib.ListN.{length, length-append}
 use Rattle.text.specs.Decimal.{digit, digits, decimal}
@@ -24,9 +24,11 @@ enough (suc f) (suc g) n p q = by (ltb n 10) refl (enough f g (n / 10))
   where
     by :
         (t : Bool) → ltb n 10 ≡ t → (n / 10 ≤ f → n / 10 ≤ g → digits f (n / 10) ≡ digits g (n / 10)) →
-        cond t (digit n ∷ []) (digits f (n / 10) ++ digit (n % 10) ∷ []) ≡ cond t (digit n ∷ []) (digits g (n / 10) ++ digit (n % 10) ∷ [])
+        cond t (digit n ∷ []) (digits f (n / 10) ++ digit (n % 10) ∷ [])
+        ≡ cond t (digit n ∷ []) (digits g (n / 10) ++ digit (n % 10) ∷ [])
     by true e above = refl
-    by false e above = let h = ltb-false n 10 e in ap (λ (l : List ℕ). l ++ digit (n % 10) ∷ []) (above (omega arith) (omega arith))
+    by false e above =
+        let h = ltb-false n 10 e in ap (λ (l : List ℕ). l ++ digit (n % 10) ∷ []) (above (omega arith) (omega arith))
 
 module _ (n : ℕ) where
   pub one-digit : n < 10 → decimal n ≡ digit n ∷ []
@@ -38,7 +40,9 @@ module _ (n : ℕ) where
 
   pub last-digit : 10 ≤ n → decimal n ≡ decimal (n / 10) ++ digit (n % 10) ∷ []
   unfolding decimal digits
-  last-digit h = enough n (suc n) n (omega arith) (omega arith) ∙ rw (le-ltb n 10 h, enough n (n / 10) (n / 10) (omega arith) (omega arith))
+  last-digit h =
+      enough n (suc n) n (omega arith) (omega arith)
+      ∙ rw (le-ltb n 10 h, enough n (n / 10) (n / 10) (omega arith) (omega arith))
 
   pub more-digits : 10 ≤ n → length (decimal n) ≡ length (decimal (n / 10)) + 1
   more-digits h = ap length (last-digit h) ∙ length-append (decimal (n / 10)) (digit (n % 10) ∷ [])

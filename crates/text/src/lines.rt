@@ -1,7 +1,9 @@
 ghost use Prim.Native.Nat.{_+_, _≤_, _<_};
+ghost use mathlib.Core.List.{_++_};
 ghost use lib.ListN.{length};
 ghost use Rattle.text.specs.Decimal.{decimal};
-ghost use Rattle.text.specs.Lines.{numberThen, runLine, refusedLine, badRecordLine, registerLine, nonzeroLine, linesBelow};
+ghost use Rattle.text.specs.Lines.{space, newline, numberThen, runLine, refusedLine, badRecordLine};
+ghost use Rattle.text.specs.Lines.{registerLine, nonzeroLine, linesBelow};
 ghost use Rattle.text.specs.Put.{Put};
 use crate::decimal::put_decimal;
 
@@ -27,6 +29,17 @@ fn put_bytes(out: &mut [u8], at: usize, bytes: &[u8]) -> usize
     at + i
 }
 
+// Two numbers with a space between, and a byte after them.
+fn put_pair(out: &mut [u8], at: usize, first: u64, second: u64, after: u8) -> usize
+    requires { ⌜ at + length (decimal first) + length (decimal second) + 2 ≤ length (now out) ⌝ }
+    ensures { λ r. ⌜
+        Put (now (out .entry)) at (numberThen first space ++ numberThen second after) (now (out .exit)) r
+        ⌝ }
+{
+    let next = put_number(out, at, first, b' ');
+    put_number(out, next, second, after)
+}
+
 // The answer of a run, the program counter and the two offsets.
 pub fn put_run(
     out: &mut [u8],
@@ -37,12 +50,21 @@ pub fn put_run(
     destination: u32,
 ) -> usize
     requires { ⌜ at + 54 ≤ length (now out) ⌝ }
-    ensures { λ r. ⌜ Put (now (out .entry)) at (runLine answer pc source destination) (now (out .exit)) r × (r ≤ at + 54) ⌝ }
+    ensures { λ r. ⌜
+        Put (now (out .entry)) at (runLine answer pc source destination) (now (out .exit)) r × (r ≤ at + 54)
+        ⌝ }
 {
-    let first = put_number(out, at, answer as u64, b' ');
-    let second = put_number(out, first, pc, b' ');
-    let third = put_number(out, second, source as u64, b' ');
-    put_number(out, third, destination as u64, b'\n')
+    let offsets = put_pair(out, at, answer as u64, pc, b' ');
+    put_pair(out, offsets, source as u64, destination as u64, b'\n')
+}
+
+// Some words, and a number after them that ends the line.
+fn put_labelled(out: &mut [u8], at: usize, label: &[u8], n: u64) -> usize
+    requires { ⌜ at + length (now label) + length (decimal n) + 1 ≤ length (now out) ⌝ }
+    ensures { λ r. ⌜ Put (now (out .entry)) at (now (label .entry) ++ numberThen n newline) (now (out .exit)) r ⌝ }
+{
+    let number = put_bytes(out, at, label);
+    put_number(out, number, n, b'\n')
 }
 
 // A setting that was refused.
@@ -50,8 +72,7 @@ pub fn put_refused(out: &mut [u8], at: usize, answer: u32) -> usize
     requires { ⌜ at + 19 ≤ length (now out) ⌝ }
     ensures { λ r. ⌜ Put (now (out .entry)) at (refusedLine answer) (now (out .exit)) r × (r ≤ at + 19) ⌝ }
 {
-    let number = put_bytes(out, at, b"refused ");
-    put_number(out, number, answer as u64, b'\n')
+    put_labelled(out, at, b"refused ", answer as u64)
 }
 
 // A record that is cut or of an unknown kind.
@@ -59,8 +80,7 @@ pub fn put_bad_record(out: &mut [u8], at: usize, offset: u64) -> usize
     requires { ⌜ at + 35 ≤ length (now out) ⌝ }
     ensures { λ r. ⌜ Put (now (out .entry)) at (badRecordLine offset) (now (out .exit)) r × (r ≤ at + 35) ⌝ }
 {
-    let number = put_bytes(out, at, b"bad record at ");
-    put_number(out, number, offset, b'\n')
+    put_labelled(out, at, b"bad record at ", offset)
 }
 
 // A register and its value.
@@ -69,8 +89,7 @@ pub fn put_register(out: &mut [u8], at: usize, index: usize, value: u64) -> usiz
     ensures { λ r. ⌜ Put (now (out .entry)) at (registerLine index value) (now (out .exit)) r × (r ≤ at + 26) ⌝ }
 {
     let number = put_bytes(out, at, b"x");
-    let second = put_number(out, number, index as u64, b' ');
-    put_number(out, second, value, b'\n')
+    put_pair(out, number, index as u64, value, b'\n')
 }
 
 // A register that is 0 has no line.
@@ -87,7 +106,9 @@ fn put_nonzero(out: &mut [u8], at: usize, index: usize, value: u64) -> usize
 // Every register that is not 0, rising.
 pub fn put_registers(out: &mut [u8], at: usize, registers: &[u64; 128]) -> usize
     requires { ⌜ at + 3328 ≤ length (now out) ⌝ }
-    ensures { λ r. ⌜ Put (now (out .entry)) at (linesBelow (now (registers .entry)) 128) (now (out .exit)) r × (r ≤ at + 3328) ⌝ }
+    ensures { λ r. ⌜
+        Put (now (out .entry)) at (linesBelow (now (registers .entry)) 128) (now (out .exit)) r × (r ≤ at + 3328)
+        ⌝ }
 {
     let mut next = at;
     let mut i: usize = 0;

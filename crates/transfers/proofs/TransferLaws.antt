@@ -1,5 +1,5 @@
 -- How a unit of a move, a load or a store comes out, whatever its transfer is.
-use Prim.Native.Nat.{ℕ, _<_, _≤_}
+use Prim.Native.Nat.{ℕ, _<_}
 use mathlib.Core.Bool.{Bool, true, false, cond, _||_, true≢false}
 use mathlib.Core.List.{List}
 use mathlib.Core.Path.{_≡_, refl, sym, _∙_}
@@ -11,14 +11,15 @@ use Rattle.operands.proofs.Fits.{fits-at}
 use Rattle.pairs.specs.declared.Pair.{Pair}
 use Rattle.pairs.specs.declared.Pair.the-variants.{Found, End}
 use Rattle.pairs.specs.Side.{next, past}
-use Rattle.pairs.proofs.Laws.{pair-in, start-in, next-in}
+use Rattle.pairs.proofs.Found.{pair-in, start-in, next-in}
 use Rattle.pausable.specs.Outcome.{Outcome}
 use Rattle.walk.specs.declared.position.Position.{Position}
 use Rattle.walk.specs.declared.position.Ran.{Ran}
 use Rattle.transfers.specs.declared.sides.Sides.{Sides}
 use Rattle.walk.specs.Context.{Context, left, ended, onward, faulted}
 use Rattle.transfers.specs.SidesReady.{SidesReady, Within}
-use Rattle.transfers.specs.Transfer.{Transferred, moved, outside, pairOf, afterPair, settled, atPair, transferUnit}
+use Rattle.transfers.specs.Transfer.{Transferred, moved, outside}
+use Rattle.transfers.specs.Transfer.{pairOf, afterPair, settled, atPair, transferUnit}
 
 -- what is known of the pair that a unit works at
 pub record Reached (s : Sides) (i j : ℕ) : Type 0 where
@@ -28,13 +29,13 @@ pub record Reached (s : Sides) (i j : ℕ) : Type 0 where
   pub j-below : j < 64
 
 pub reached :
-    (s : Sides) (position : Position) (i j : ℕ) → SidesReady s → Within (s .vl) position →
-    pairOf s position ≡ Found i j → Reached s i j
+    (s : Sides) (position : Position) (p : Pair) (i j : ℕ) → SidesReady s → Within (s .vl) position →
+    p ≡ pairOf s position → p ≡ Found i j → Reached s i j
 unfolding pairOf
-reached s position i j ready within e =
+reached s position p i j ready within said found =
     let below =
     pair-in _ _ _ _ _ i j (start-in (s .source) (s .vl) _ (within .source))
-    (start-in (s .destination) (s .vl) _ (within .destination)) e
+    (start-in (s .destination) (s .vl) _ (within .destination)) (sym said ∙ found)
     in
     record {
       source = fits-at _ _ i (below .0) (ready .source);
@@ -52,7 +53,8 @@ after-within :
     PausesWithin (s .vl) (afterPair s bytes position i j)
 unfolding afterPair
 after-within s bytes position i j h =
-    by (s .single) (past (s .source) (s .vl) (next (s .source) i)) (past (s .destination) (s .vl) (next (s .destination) j))
+    by (s .single) (past (s .source) (s .vl) (next (s .source) i))
+    (past (s .destination) (s .vl) (next (s .destination) j))
     (next-in (s .source) (s .vl) i h) (next-in (s .destination) (s .vl) j h)
   where
     by :
@@ -65,25 +67,24 @@ after-within s bytes position i j h =
     by false false false f g = λ e. record { source = f refl; destination = g refl }
 
 module _ (s : Sides) (bytes : ℕ) (transfer : Context → ℕ → ℕ → Transferred) (c : Context) where
-  pub unit-end :
-      pairOf s (c .position) ≡ End →
-      left (ended bytes (c .position)) (c .registers) (c .memory) ≡ transferUnit s bytes transfer c
-  unfolding transferUnit atPair
-  unit-end e = rw e
+  module _ (p : Pair) (said : p ≡ pairOf s (c .position)) where
+    pub unit-end :
+        p ≡ End → left (ended bytes (c .position)) (c .registers) (c .memory) ≡ transferUnit s bytes transfer c
+    unfolding transferUnit atPair
+    unit-end e = rw (sym said ∙ e)
 
-  module _ (i j : ℕ) (found : pairOf s (c .position) ≡ Found i j) where
-    pub unit-moved :
-        (registers memory : List ℕ) → transfer c i j ≡ moved registers memory →
-        left (afterPair s bytes (c .position) i j) registers memory ≡ transferUnit s bytes transfer c
-    unfolding transferUnit atPair settled
-    unit-moved registers memory e = rw (found, e)
+    module _ (i j : ℕ) (found : p ≡ Found i j) where
+      pub unit-moved :
+          (registers memory : List ℕ) → transfer c i j ≡ moved registers memory →
+          left (afterPair s bytes (c .position) i j) registers memory ≡ transferUnit s bytes transfer c
+      unfolding transferUnit atPair settled
+      unit-moved registers memory e = rw (sym said ∙ found, e)
 
-    pub unit-outside :
-        (address : ℕ) → transfer c i j ≡ outside address →
-        left (faulted address (c .position) i j) (c .registers) (c .memory)
-        ≡ transferUnit s bytes transfer c
-    unfolding transferUnit atPair settled
-    unit-outside address e = rw (found, e)
+      pub unit-outside :
+          (address : ℕ) → transfer c i j ≡ outside address →
+          left (faulted address (c .position) i j) (c .registers) (c .memory) ≡ transferUnit s bytes transfer c
+      unfolding transferUnit atPair settled
+      unit-outside address e = rw (sym said ∙ found, e)
 
   -- a unit that pauses leaves both offsets below VL
   pub unit-within :
@@ -96,7 +97,8 @@ module _ (s : Sides) (bytes : ℕ) (transfer : Context → ℕ → ℕ → Trans
       Fine o = pauses (o .answer) ≡ true → Within (s .vl) (o .state .position)
 
       at : (i j : ℕ) (t : Transferred) → Fine (settled s bytes c i j t)
-      at i j (moved registers memory) = unfold settled in after-within s bytes (c .position) i j (omega (arith, within .source))
+      at i j (moved registers memory) =
+          unfold settled in after-within s bytes (c .position) i j (omega (arith, within .source))
       at i j (outside address) = unfold settled pauses in (λ e. absurd (true≢false (sym e)))
 
       by : (p : Pair) → Fine (atPair s bytes (transfer c) c p)

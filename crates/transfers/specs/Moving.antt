@@ -12,7 +12,8 @@ use Rattle.transfers.specs.Transfer.{Transferred, moved, transferUnit}
 unfoldable pub moveElement : Sides → Context → ℕ → ℕ → Transferred
 moveElement s c i j =
     moved
-    (written (c .registers) (registerAt (s .destination .place) j) (getD (c .registers) (registerAt (s .source .place) i) 0))
+    (written (c .registers) (registerAt (s .destination .place) j)
+    (getD (c .registers) (registerAt (s .source .place) i) 0))
     (c .memory)
 
 unfoldable pub moveUnit : Sides → Context → Outcome Answer Context

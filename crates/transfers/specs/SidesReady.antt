@@ -1,5 +1,5 @@
--- What the layer above has established before the walk of a move, a load or a store: VL at most 64, registers that exist,
--- offsets below VL.
+-- What the layer above has established before the walk of a move, a load or a store: VL at most 64, registers that
+-- exist, offsets below VL.
 use Prim.Native.Nat.{ℕ, _<_, _≤_}
 use mathlib.Core.Bool.{true}
 use mathlib.Core.Path.{_≡_}

@@ -28,7 +28,8 @@ pairOf s position =
 unfoldable pub afterPair : Sides → ℕ → Position → ℕ → ℕ → Ran
 afterPair s bytes position i j =
     cond
-    (s .single || past (s .source) (s .vl) (next (s .source) i) || past (s .destination) (s .vl) (next (s .destination) j))
+    (s .single || past (s .source) (s .vl) (next (s .source) i)
+    || past (s .destination) (s .vl) (next (s .destination) j))
     (ended bytes position)
     (onward position (next (s .source) i) (next (s .destination) j))
 

@@ -15,7 +15,10 @@ impl Sides {
     // One element.
     pub fn move_unit(self, position: Position, registers: &mut [u64; 128]) -> Ran
         requires { ⌜ SidesReady self × Within (self .vl) position ⌝ }
-        ensures { λ r. ⌜ WithAnyMemory (moveUnit self) (now (registers .entry)) position r (now (registers .exit)) ⌝ }
+        ensures { λ r. ⌜
+            WithAnyMemory (moveUnit self)
+            (now (registers .entry)) position r (now (registers .exit))
+            ⌝ }
     {
         match self.find(position) {
             Pair::End => position.ended(2),
@@ -31,7 +34,10 @@ impl Sides {
     // At most as many elements as allowed.
     pub fn move_walk(self, position: Position, allowance: u16, registers: &mut [u64; 128]) -> Ran
         requires { ⌜ SidesReady self × Within (self .vl) position ⌝ }
-        ensures { λ r. ⌜ WithAnyMemory (walk pausing (moveUnit self) allowance) (now (registers .entry)) position r (now (registers .exit)) ⌝ }
+        ensures { λ r. ⌜
+            WithAnyMemory (walk pausing (moveUnit self) allowance)
+            (now (registers .entry)) position r (now (registers .exit))
+            ⌝ }
     {
         let mut now = position;
         let mut left = allowance;

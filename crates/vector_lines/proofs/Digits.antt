@@ -37,7 +37,9 @@ module _ (bytes : List ℕ) (n i to : ℕ) where
   unfolding digitsAfter
   stop h l d = rw (slice-cons i to bytes 0 h l, le-leb 16 (digitOf (getD bytes i 0)) d)
 
-  pub step : i < to → to ≤ length bytes → digitOf (getD bytes i 0) < 16 → digitsAfter n (slice i to bytes) ≡ digitsAfter (n * 16 + digitOf (getD bytes i 0)) (slice (i + 1) to bytes)
+  pub step :
+      i < to → to ≤ length bytes → digitOf (getD bytes i 0) < 16 →
+      digitsAfter n (slice i to bytes) ≡ digitsAfter (n * 16 + digitOf (getD bytes i 0)) (slice (i + 1) to bytes)
   unfolding digitsAfter
   step h l d = rw (slice-cons i to bytes 0 h l, lt-leb 16 (digitOf (getD bytes i 0)) d, add-one)
 

@@ -10,7 +10,7 @@ pub enum Number {
 }
 
 // The value of a hex digit, and 16 for any other byte.
-pub fn digit(byte: u8) -> u64
+pub fn digit_of(byte: u8) -> u64
     ensures { λ r. ⌜ r ≡ digitOf byte ⌝ }
 {
     match byte {
@@ -30,7 +30,7 @@ pub(crate) fn hex_number(bytes: &[u8], from: usize, to: usize) -> Number
     let mut number: u64 = 0;
     let mut i = from;
     while i < to {
-        let value = digit(bytes[i]);
+        let value = digit_of(bytes[i]);
         if 16 <= value {
             return Number::NotHex;
         }

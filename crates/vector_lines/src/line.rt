@@ -19,7 +19,7 @@ pub enum Line {
 }
 
 // The line that the four numbers make, where each is one.
-fn whole(word: Number, rs1: Number, rs2: Number, result: Number) -> Line
+fn whole_of(word: Number, rs1: Number, rs2: Number, result: Number) -> Line
     requires { ⌜ Below (2 ^ 32) word ⌝ }
     ensures { λ r. ⌜ r ≡ wholeOf word rs1 rs2 result ⌝ }
 {
@@ -45,7 +45,7 @@ fn whole(word: Number, rs1: Number, rs2: Number, result: Number) -> Line
 }
 
 // A line without its line end: 8 digits and three times 16, with one space between.
-pub fn read_line(line: &[u8]) -> Line
+pub fn line_of(line: &[u8]) -> Line
     ensures { λ r. ⌜ r ≡ lineOf (now (line .entry)) ⌝ }
 {
     if line.len() != 59 {
@@ -55,7 +55,7 @@ pub fn read_line(line: &[u8]) -> Line
     if !spaced {
         return Line::Damaged;
     }
-    whole(
+    whole_of(
         hex_number(line, 0, 8),
         hex_number(line, 9, 25),
         hex_number(line, 26, 42),

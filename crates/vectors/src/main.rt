@@ -11,7 +11,7 @@ mod report;
 mod tally;
 
 // The lines of a file that is read in pieces.
-mod reading;
+mod file;
 
 fn main() {
     let mut path = io::buffer();
@@ -25,6 +25,6 @@ fn main() {
         os::fail(&path[..length]);
         return;
     }
-    reading::check_file(fd, &path[..length]);
+    file::check_file(fd, &path[..length]);
     libc::close(fd);
 }

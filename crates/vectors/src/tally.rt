@@ -3,7 +3,7 @@ use crate::execution::execute;
 use crate::report;
 use vector_lines::line::Line;
 use vector_lines::line::TestVector;
-use vector_lines::line::read_line;
+use vector_lines::line::line_of;
 
 // How many lines there were, of each kind.
 pub struct Tally {
@@ -47,7 +47,7 @@ impl Tally {
 
     pub(crate) fn with_line(mut self, line: &[u8]) -> Tally {
         self.lines = one_more(self.lines);
-        match read_line(line) {
+        match line_of(line) {
             Line::Whole(vector) => {
                 if agrees(self.lines, vector) {
                     self.agree = one_more(self.agree);

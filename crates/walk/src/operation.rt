@@ -39,6 +39,18 @@ fn second_at(second: Second, registers: &[u64; 128], vl: u32, i: u32) -> u64
     }
 }
 
+// On from a position that is done.
+fn go_on(vl: u32, position: Position, i: u32) -> Ran
+    requires { ⌜ i < 64 ⌝ }
+    ensures { λ r. ⌜ r ≡ goOn vl position i ⌝ }
+{
+    if i + 1 < vl {
+        position.onward(i + 1, i + 1)
+    } else {
+        position.ended(4)
+    }
+}
+
 impl OperationPlan {
     // What a position computes.
     fn element(self, registers: &[u64; 128], i: u32) -> u64
@@ -52,25 +64,13 @@ impl OperationPlan {
         compute(operator, a, b)
     }
 
-    // On from a position that is done.
-    fn go_on(self, position: Position, i: u32) -> Ran
-        requires { ⌜ i < 64 ⌝ }
-        ensures { λ r. ⌜ r ≡ goOn self position i ⌝ }
-    {
-        if i + 1 < self.vl {
-            Ran {
-                answer: Answer::Paused,
-                position: position.at(i + 1, i + 1),
-            }
-        } else {
-            position.ended(4)
-        }
-    }
-
     // One position.
     pub fn unit(self, position: Position, registers: &mut [u64; 128]) -> Ran
         requires { ⌜ OperationReady self × (position .destination < self .vl) ⌝ }
-        ensures { λ r. ⌜ WithAnyMemory (operationUnit self) (now (registers .entry)) position r (now (registers .exit)) ⌝ }
+        ensures { λ r. ⌜
+            WithAnyMemory (operationUnit self)
+            (now (registers .entry)) position r (now (registers .exit))
+            ⌝ }
     {
         let i = position.destination;
         let to = self.destination.at(i);
@@ -78,20 +78,23 @@ impl OperationPlan {
             let value = self.element(registers, i);
             write_within(registers, to, value);
             if self.destination.vector {
-                return self.go_on(position, i);
+                return go_on(self.vl, position, i);
             }
             return position.ended(4);
         }
         if self.mask.zeroing {
             write_within(registers, to, 0);
         }
-        self.go_on(position, i)
+        go_on(self.vl, position, i)
     }
 
     // At most as many positions as allowed.
     pub fn walk(self, position: Position, allowance: u16, registers: &mut [u64; 128]) -> Ran
         requires { ⌜ OperationReady self × (position .destination < self .vl) ⌝ }
-        ensures { λ r. ⌜ WithAnyMemory (walk pausing (operationUnit self) allowance) (now (registers .entry)) position r (now (registers .exit)) ⌝ }
+        ensures { λ r. ⌜
+            WithAnyMemory (walk pausing (operationUnit self) allowance)
+            (now (registers .entry)) position r (now (registers .exit))
+            ⌝ }
     {
         let mut now = position;
         let mut left = allowance;

@@ -9,5 +9,5 @@ use Rattle.stream.specs.Feed.{pieceRoom, lastRoom, TextOut, writtenInto}
 abbrev pub wholeRoom : ℕ → ℕ
 wholeRoom bytes = pieceRoom bytes + lastRoom
 
-unfoldable pub runOf : List ℕ → List ℕ → TextOut
-runOf bytes out = writtenInto (wholeRoom (length bytes)) (output bytes) out
+unfoldable pub runInto : List ℕ → List ℕ → TextOut
+runInto bytes out = writtenInto (wholeRoom (length bytes)) (output bytes) out

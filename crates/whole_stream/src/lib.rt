@@ -1,7 +1,7 @@
 // A whole stream in one call: its bytes in, the text that it prints out.
 ghost use mathlib.Core.Path.{_≡_};
 ghost use Rattle.stream.specs.Feed.{textOut};
-ghost use Rattle.whole_stream.specs.Whole.{runOf};
+ghost use Rattle.whole_stream.specs.Whole.{runInto};
 use machine::Machine;
 use records::reader::Reader;
 use stream::feed::Text;
@@ -12,7 +12,7 @@ use stream::finish::finish;
 // Runs a stream on a fresh machine with 4,096 zero bytes of memory, and writes what it prints.
 // It is refused, and nothing is written, where `out` might be too short.
 pub fn run_stream(bytes: &[u8], out: &mut [u8]) -> Text
-    ensures { λ r. ⌜ textOut r (now (out .exit)) ≡ runOf (now (bytes .entry)) (now (out .entry)) ⌝ }
+    ensures { λ r. ⌜ textOut r (now (out .exit)) ≡ runInto (now (bytes .entry)) (now (out .entry)) ⌝ }
 {
     if out.len() < LAST_ROOM {
         return Text::NoRoom;

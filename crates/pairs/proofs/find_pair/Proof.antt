@@ -4,7 +4,7 @@ use mathlib.Core.Path.{_≡_, refl, sym, _∙_}
 use borrow.Author.Needs.{needs}
 use native.Mathlib.Omega.{arith}
 use Rattle.pairs.specs.Pair.{skipped}
-use Rattle.pairs.proofs.Laws.{
+use Rattle.pairs.proofs.Skipping.{
   skipped-off,
   Rests,
   rests-still,
@@ -111,25 +111,6 @@ returns-4 c =
 pub find-pair-spec : {M : Type 1} → statement M
 find-pair-spec =
     tie.close
-    (tie.spec
-    Inv-loop
-    μ-loop
-    Inv-loop2
-    μ-loop2
-    Inv-pair
-    μ-pair
-    pair-holds
-    loop-holds
-    (λ c κs. search needs)
-    (λ c. search needs)
-    (λ c. search needs)
-    loop-again
-    loop2-holds
-    (λ c κs. search needs)
-    (λ c. search needs)
-    (λ c. search needs)
-    loop2-again
-    returns
-    returns-2
-    returns-3
-    returns-4)
+    (tie.spec Inv-loop μ-loop Inv-loop2 μ-loop2 Inv-pair μ-pair pair-holds loop-holds (λ c κs. search needs)
+    (λ c. search needs) (λ c. search needs) loop-again loop2-holds (λ c κs. search needs) (λ c. search needs)
+    (λ c. search needs) loop2-again returns returns-2 returns-3 returns-4)

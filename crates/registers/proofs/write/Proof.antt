@@ -1,4 +1,3 @@
-use mathlib.Core.Path.{sym}
 use mathlib.Core.Bool.{and-false}
 use borrow.Author.Needs.{needs}
 use borrow.Author.Tests.{le-ltb}
@@ -6,9 +5,7 @@ use Rattle.registers.specs.Written.{written}
 use Rattle.registers.proofs.write.Statement.{statement}
 use Rattle.registers.proofs.write.Tie as tie
 
-returns-2 : tie.Need-returns-2
-unfolding written
-returns-2 c = rw (le-ltb _ _ (c .if1 .left), and-false)
-
 pub write-spec : {M : Type 1} → statement M
-write-spec = tie.close (tie.spec (λ c κs. search needs) (λ c. search needs) returns-2)
+unfolding written
+write-spec =
+    tie.close (tie.spec (λ c κs. search needs) (λ c. search needs) (λ c. rw (le-ltb _ _ (c .if1 .left), and-false)))

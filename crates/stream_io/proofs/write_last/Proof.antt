@@ -11,13 +11,8 @@ write-text-requires c κs =
 returns : tie.Need-returns
 returns c =
     let f = c .before .before .before .before in
-    sends-last _ _ _ _ _ _ _ (f .finish .ensures) (c .write-text .ensures)
+    sends-last _ _ _ _ _ _ (f .finish .ensures) _ (c .write-text .ensures)
 
 pub write-last-spec : {M : Type 1} → statement M
 write-last-spec =
-    tie.close
-    (tie.spec
-    (λ c κs. search needs)
-    write-text-requires
-    (λ c. search needs)
-    returns)
+    tie.close (tie.spec (λ c κs. search needs) write-text-requires (λ c. search needs) returns)

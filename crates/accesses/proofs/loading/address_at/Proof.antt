@@ -33,13 +33,5 @@ returns-2 c =
 pub address-at-spec : {M : Type 1} → statement M
 address-at-spec =
     tie.close
-    (tie.spec
-    (λ c κs. search needs)
-    (λ c. search needs)
-    (λ c. search needs)
-    (λ c κs. search needs)
-    returns
-    (λ c κs. search needs)
-    mul-wrapping-add-u64-2
-    (λ c κs. search needs)
-    returns-2)
+    (tie.spec (λ c κs. search needs) (λ c. search needs) (λ c. search needs) (λ c κs. search needs) returns
+    (λ c κs. search needs) mul-wrapping-add-u64-2 (λ c κs. search needs) returns-2)

@@ -2,31 +2,12 @@ use borrow.Author.Needs.{needs}
 use Rattle.accesses.proofs.loading.fetch.Statement.{statement}
 use Rattle.accesses.proofs.loading.fetch.Tie as tie
 
-returns : tie.Need-returns
-returns c = rw (c .before .enum-told .given .1) (c .fetch-as .ensures)
-
-returns-2 : tie.Need-returns-2
-returns-2 c = rw (c .before .enum-told2 .given .1) (c .fetch-as2 .ensures)
-
-returns-3 : tie.Need-returns-3
-returns-3 c = rw (c .before .enum-told3 .given .1) (c .fetch-as3 .ensures)
-
-returns-4 : tie.Need-returns-4
-returns-4 c = rw (c .before .enum-told4 .given .1) (c .fetch-as4 .ensures)
-
 pub fetch-spec : {M : Type 1} → statement M
 fetch-spec =
     tie.close
-    (tie.spec
-    (λ c. search needs)
-    (λ c κs. search needs)
-    (λ c. search needs)
-    (λ c κs. search needs)
-    (λ c. search needs)
-    (λ c κs. search needs)
-    (λ c. search needs)
-    (λ c κs. search needs)
-    returns
-    returns-2
-    returns-3
-    returns-4)
+    (tie.spec (λ c. search needs) (λ c κs. search needs) (λ c. search needs) (λ c κs. search needs)
+    (λ c. search needs) (λ c κs. search needs) (λ c. search needs) (λ c κs. search needs)
+    (λ c. rw (c .before .enum-told .given .1) (c .fetch-as .ensures))
+    (λ c. rw (c .before .enum-told2 .given .1) (c .fetch-as2 .ensures))
+    (λ c. rw (c .before .enum-told3 .given .1) (c .fetch-as3 .ensures))
+    (λ c. rw (c .before .enum-told4 .given .1) (c .fetch-as4 .ensures)))

@@ -23,11 +23,5 @@ returns-3 c = rw (sym (c .before .before .load .ensures) ∙ c .enum-told .given
 pub fetch-as-spec : {M : Type 1} → statement M
 fetch-as-spec =
     tie.close
-    (tie.spec
-    (λ c κs. search needs)
-    (λ c. search needs)
-    (λ c κs. search needs)
-    returns
-    (λ c. search needs)
-    returns-2
+    (tie.spec (λ c κs. search needs) (λ c. search needs) (λ c κs. search needs) returns (λ c. search needs) returns-2
     returns-3)

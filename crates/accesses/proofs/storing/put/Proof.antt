@@ -2,35 +2,15 @@ use borrow.Author.Needs.{needs}
 use Rattle.accesses.proofs.storing.put.Statement.{statement}
 use Rattle.accesses.proofs.storing.put.Tie as tie
 
-returns : tie.Need-returns
-returns c = rw (c .before .before .before .before .enum-told .given .1) (c .before .before .store .ensures)
-
-returns-2 : tie.Need-returns-2
-returns-2 c = rw (c .before .before .before .before .enum-told2 .given .1) (c .before .before .store2 .ensures)
-
-returns-3 : tie.Need-returns-3
-returns-3 c = rw (c .before .before .before .before .enum-told3 .given .1) (c .before .before .store3 .ensures)
-
-returns-4 : tie.Need-returns-4
-returns-4 c = rw (c .before .before .before .before .enum-told4 .given .1) (c .before .before .store4 .ensures)
-
 pub put-spec : {M : Type 1} → statement M
 put-spec =
     tie.close
-    (tie.spec
+    (tie.spec (λ c. search needs) (λ c κs. search needs) (λ c. search needs) (λ c κs. search needs)
+    (λ c. search needs) (λ c κs. search needs) (λ c. search needs) (λ c κs. search needs) (λ c. search needs)
+    (λ c. rw (c .before .before .before .before .enum-told .given .1) (c .before .before .store .ensures))
     (λ c. search needs)
-    (λ c κs. search needs)
+    (λ c. rw (c .before .before .before .before .enum-told2 .given .1) (c .before .before .store2 .ensures))
     (λ c. search needs)
-    (λ c κs. search needs)
+    (λ c. rw (c .before .before .before .before .enum-told3 .given .1) (c .before .before .store3 .ensures))
     (λ c. search needs)
-    (λ c κs. search needs)
-    (λ c. search needs)
-    (λ c κs. search needs)
-    (λ c. search needs)
-    returns
-    (λ c. search needs)
-    returns-2
-    (λ c. search needs)
-    returns-3
-    (λ c. search needs)
-    returns-4)
+    (λ c. rw (c .before .before .before .before .enum-told4 .given .1) (c .before .before .store4 .ensures)))

@@ -17,24 +17,32 @@ returns-3 : tie.Need-returns-3
 unfolding compressedMove
 returns-3 c =
     let a = c .before in
-    rw (div-one, eq-eqb _ _ (a .before .before .if1 .left), eq-eqb _ _ (a .before .if2 .left), ← (a .compressed-rs2 .ensures), eq-eqb _ _ (c .if3 .taken))
+    rw (
+      div-one,
+      eq-eqb _ _ (a .before .before .if1 .left),
+      eq-eqb _ _ (a .before .if2 .left),
+      ← (a .compressed-rs2 .ensures),
+      eq-eqb _ _ (c .if3 .taken),
+    )
 
 returns-4 : tie.Need-returns-4
 unfolding compressedMove
 returns-4 c =
     let b = c .before .before .before in
     let a = b .before in
-    rw (c .named-for2 .ensures, c .before .named-for .ensures, c .before .before .rd .ensures, div-one, eq-eqb _ _ (a .before .before .if1 .left), eq-eqb _ _ (a .before .if2 .left), ← (a .compressed-rs2 .ensures), ne-eqb _ _ (b .if3 .left))
+    rw (
+      c .named-for2 .ensures,
+      c .before .named-for .ensures,
+      c .before .before .rd .ensures,
+      div-one,
+      eq-eqb _ _ (a .before .before .if1 .left),
+      eq-eqb _ _ (a .before .if2 .left),
+      ← (a .compressed-rs2 .ensures),
+      ne-eqb _ _ (b .if3 .left),
+    )
 
 pub compressed-spec : {M : Type 1} → statement M
 compressed-spec =
     tie.close
-    (tie.spec
-    returns
-    returns-2
-    (λ c κs. search needs)
-    returns-3
-    (λ c κs. search needs)
-    (λ c κs. search needs)
-    (λ c κs. search needs)
-    returns-4)
+    (tie.spec returns returns-2 (λ c κs. search needs) returns-3 (λ c κs. search needs) (λ c κs. search needs)
+    (λ c κs. search needs) returns-4)

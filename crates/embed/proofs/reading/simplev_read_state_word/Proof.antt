@@ -1,5 +1,4 @@
 use borrow.Author.Needs.{needs}
-use Rattle.machine.specs.Reading.{told}
 use Rattle.machine.proofs.Shapes.{parts}
 use Rattle.lent.proofs.Arrays.{all-bits}
 use Rattle.lent.proofs.Leaves.{replies-same}
@@ -7,18 +6,12 @@ use Rattle.embed.proofs.reading.simplev_read_state_word.Statement.{stat
 use Rattle.embed.proofs.reading.simplev_read_state_word.Tie as tie
 
 returns : tie.Need-returns
-unfolding told
 returns c =
-    let word = c .before .before in
-    replies-same _ _ _ _ _ (c .read .ensures)
-    (λ shaped placed. rw (word .word .ensures, all-bits (word .before .state-of .ensures) (parts _ shaped .state)))
+    let made = c .before .before in
+    replies-same _ _ _ _ _ (c .guarded .ensures)
+    (λ shaped there. rw (made .word .ensures, all-bits (made .before .state-of .ensures) (parts _ shaped .state)))
 
 pub simplev-read-state-word-spec : {M : Type 1} → statement M
 simplev-read-state-word-spec =
     tie.close
-    (tie.spec
-    (λ c κs. search needs)
-    (λ c κs. search needs)
-    (λ c. search needs)
-    (λ c κs. search needs)
-    returns)
+    (tie.spec (λ c κs. search needs) (λ c κs. search needs) (λ c. search needs) (λ c κs. search needs) returns)

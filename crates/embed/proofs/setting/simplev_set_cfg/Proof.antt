@@ -9,15 +9,11 @@ use Rattle.embed.proofs.setting.simplev_set_cfg.Tie as tie
 returns : tie.Need-returns
 unfolding setCfg
 returns c =
-    let read = c .before .before .before in
-    replies-same _ _ _ _ _ (c .set-control .ensures)
-    (λ shaped placed. rw (all-bits (read .state-of .ensures) (parts _ shaped .state)))
+    let old = c .before .before .before .before in
+    rw (← (c .before .before .valid .ensures)) (replies-same _ _ _ _ _ (c .set-control .ensures)
+    (λ shaped there. rw (all-bits (old .state-of .ensures) (parts _ shaped .state))))
 
 pub simplev-set-cfg-spec : {M : Type 1} → statement M
 simplev-set-cfg-spec =
     tie.close
-    (tie.spec
-    (λ c. search needs)
-    (λ c κs. search needs)
-    (λ c κs. search needs)
-    returns)
+    (tie.spec (λ c. search needs) (λ c κs. search needs) (λ c κs. search needs) (λ c κs. search needs) returns)

@@ -9,16 +9,12 @@ use Rattle.embed.proofs.setting.simplev_set_mvl.Tie as tie
 returns : tie.Need-returns
 unfolding setMvl
 returns c =
-    let read = c .before .before .before .before in
-    replies-same _ _ _ _ _ (c .set-control .ensures)
-    (λ shaped placed. rw (c .before .before .before .with-mvl .ensures, all-bits (read .state-of .ensures) (parts _ shaped .state)))
+    let made = c .before .before .before .before in
+    rw (← (c .before .before .valid .ensures)) (replies-same _ _ _ _ _ (c .set-control .ensures)
+    (λ shaped there. rw (made .with-mvl .ensures, all-bits (made .before .state-of .ensures) (parts _ shaped .state))))
 
 pub simplev-set-mvl-spec : {M : Type 1} → statement M
 simplev-set-mvl-spec =
     tie.close
-    (tie.spec
-    (λ c. search needs)
-    (λ c κs. search needs)
-    (λ c κs. search needs)
-    (λ c κs. search needs)
-    returns)
+    (tie.spec (λ c. search needs) (λ c κs. search needs) (λ c κs. search needs) (λ c κs. search needs)
+    (λ c κs. search needs) returns)

@@ -9,14 +9,8 @@ use Rattle.embed.proofs.setting.simplev_set_pc.Tie as tie
 returns : tie.Need-returns
 unfolding setPc
 returns c =
-    let read = c .before .before .before in
     replies-same _ _ _ _ _ (c .set-control .ensures)
-    (λ shaped placed. rw (all-bits (read .state-of .ensures) (parts _ shaped .state)))
+    (λ shaped there. rw (all-bits (c .before .before .before .state-of .ensures) (parts _ shaped .state)))
 
 pub simplev-set-pc-spec : {M : Type 1} → statement M
-simplev-set-pc-spec =
-    tie.close
-    (tie.spec
-    (λ c κs. search needs)
-    (λ c κs. search needs)
-    returns)
+simplev-set-pc-spec = tie.close (tie.spec (λ c κs. search needs) (λ c κs. search needs) returns)

@@ -1,43 +1,23 @@
-use borrow.Author.Needs.{needs}
-use mathlib.Core.Path.{refl}
 use native.Mathlib.Nat.{div-one}
-use borrow.Author.Tests.{ltb-true}
+use borrow.Author.Needs.{needs}
 use Rattle.machine.specs.Setting.{setPredicateEntry}
-use Rattle.machine.proofs.Laws.{fails, holds}
-use Rattle.lent.proofs.Leaves.{replies-refused, replies-accepted, accepted-exists}
+use Rattle.lent.proofs.Leaves.{set-refused, set-accepted}
 use Rattle.embed.proofs.setting.simplev_set_predicate_entry.Statement.{statement}
 use Rattle.embed.proofs.setting.simplev_set_predicate_entry.Tie as tie
 
 returns : tie.Need-returns
 unfolding setPredicateEntry
 returns c =
-    let test = c .before .before in
-    rw div-one (replies-refused _ _ _ (test .before .before .judged .ensures) _
-    (fails (test .before .accepts .ensures) (test .if1 .taken))
-    (c .tell .ensures))
-
-put-entry-requires : tie.Need-put-entry-requires
-put-entry-requires c κs =
-    let test = c .before in
-    ltb-true _ _
-    (accepted-exists _ _ _ (test .before .before .judged .ensures) (holds (test .before .accepts .ensures) (test .if1 .left)))
+    rw (div-one, ← (c .before .before .before .valid .ensures))
+    (set-refused _ _ _ _ _ (c .before .guarded .ensures) (c .if1 .taken))
 
 returns-2 : tie.Need-returns-2
 unfolding setPredicateEntry
 returns-2 c =
-    let test = c .before .before .before .before in
-    rw div-one (replies-accepted _ _ _ (test .before .before .judged .ensures) _
-    (holds (test .before .accepts .ensures) (test .if1 .left))
-    (record { says = c .tell2 .ensures; machine = rw (c .before .before .put-entry .ensures) refl }))
+    let test = c .before .before in
+    rw (c .with-entry .ensures, div-one, ← (test .before .before .before .valid .ensures))
+    (set-accepted _ _ _ _ _ (test .before .guarded .ensures) (test .if1 .left))
 
 pub simplev-set-predicate-entry-spec : {M : Type 1} → statement M
 simplev-set-predicate-entry-spec =
-    tie.close
-    (tie.spec
-    (λ c κs. search needs)
-    (λ c κs. search needs)
-    (λ c κs. search needs)
-    returns
-    put-entry-requires
-    (λ c κs. search needs)
-    returns-2)
+    tie.close (tie.spec (λ c κs. search needs) (λ c κs. search needs) returns (λ c κs. search needs) returns-2)

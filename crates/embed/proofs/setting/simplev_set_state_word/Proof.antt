@@ -6,16 +6,18 @@ use Rattle.embed.proofs.setting.simplev_set_state_word.Tie as tie
 returns : tie.Need-returns
 unfolding setStateWord
 returns c =
-    let made = c .before .before .before .before in
-    rw (← (made .before .of-word .ensures), ← (made .cut .ensures), ← (c .before .before .good-word .ensures)) (c .set-control .ensures)
+    let own = c .before .before in
+    let made = own .before .before .before in
+    rw (
+      ← (made .before .of-word .ensures),
+      ← (made .cut .ensures),
+      ← (own .before .good-word .ensures),
+      ← (own .valid .ensures),
+    )
+    (c .set-control .ensures)
 
 pub simplev-set-state-word-spec : {M : Type 1} → statement M
 simplev-set-state-word-spec =
     tie.close
-    (tie.spec
-    (λ c. search needs)
-    (λ c κs. search needs)
-    (λ c κs. search needs)
-    (λ c κs. search needs)
-    (λ c κs. search needs)
-    returns)
+    (tie.spec (λ c. search needs) (λ c κs. search needs) (λ c κs. search needs) (λ c κs. search needs)
+    (λ c κs. search needs) (λ c κs. search needs) returns)

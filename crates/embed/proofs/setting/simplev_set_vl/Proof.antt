@@ -5,11 +5,7 @@ use Rattle.embed.proofs.setting.simplev_set_vl.Tie as tie
 
 returns : tie.Need-returns
 unfolding setVl
-returns c = c .set-vl .ensures
+returns c = rw (← (c .before .before .valid .ensures)) (c .set-vl .ensures)
 
 pub simplev-set-vl-spec : {M : Type 1} → statement M
-simplev-set-vl-spec =
-    tie.close
-    (tie.spec
-    (λ c κs. search needs)
-    returns)
+simplev-set-vl-spec = tie.close (tie.spec (λ c κs. search needs) (λ c κs. search needs) returns)

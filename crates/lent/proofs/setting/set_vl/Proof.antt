@@ -9,7 +9,7 @@ returns : tie.Need-returns
 returns c =
     let made = c .before .before .before .before in
     replies-same _ _ _ _ _ (c .set-control .ensures)
-    (λ shaped placed. rw (made .with-vl .ensures, all-bits (made .before .state-of .ensures) (parts _ shaped .state)))
+    (λ shaped there. rw (made .with-vl .ensures, all-bits (made .before .state-of .ensures) (parts _ shaped .state)))
 
 pub set-vl-spec : {M : Type 1} → statement M
 set-vl-spec =

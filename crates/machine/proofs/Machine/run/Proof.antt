@@ -1,6 +1,6 @@
 use mathlib.Core.Path.{sym, _∙_}
 use borrow.Author.Needs.{needs}
-use Rattle.machine.proofs.Placed.{run-refused}
+use Rattle.machine.proofs.Handled.{run-refused}
 use Rattle.machine.proofs.Machine.run.Statement.{statement}
 use Rattle.machine.proofs.Machine.run.Tie as tie
 
@@ -10,15 +10,10 @@ run-in-shape-requires c κs =
 
 returns-2 : tie.Need-returns-2
 returns-2 c =
-    rw (c .refused .ensures) (run-refused _ _ _ (sym (c .before .before .in-shape .ensures) ∙ c .before .if1 .left))
+    rw (c .refuse .ensures) (run-refused _ _ _ (sym (c .before .before .in-shape .ensures) ∙ c .before .if1 .left))
 
 pub run-spec : {M : Type 1} → statement M
 run-spec =
     tie.close
-    (tie.spec
-    (λ c κs. search needs)
-    run-in-shape-requires
-    (λ c. search needs)
-    (λ c. search needs)
-    (λ c κs. search needs)
-    returns-2)
+    (tie.spec (λ c κs. search needs) run-in-shape-requires (λ c. search needs) (λ c. search needs)
+    (λ c κs. search needs) returns-2)

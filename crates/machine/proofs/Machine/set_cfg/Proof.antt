@@ -1,22 +1,19 @@
 use borrow.Author.Needs.{needs}
 use Rattle.machine.specs.Setting.{setCfg}
-use Rattle.machine.proofs.Laws.{fails, holds}
 use Rattle.machine.proofs.Machine.set_cfg.Statement.{statement}
 use Rattle.machine.proofs.Machine.set_cfg.Tie as tie
 
 returns : tie.Need-returns
 unfolding setCfg
 returns c =
-    let a = c .before in
-    rw (c .refused .ensures, ← (a .before .before .judged .ensures), fails (a .before .accepts .ensures) (a .if1 .taken))
-
-returns-2 : tie.Need-returns-2
-unfolding setCfg
-returns-2 c =
-    let a = c .before .before in
-    rw (c .done .ensures, ← (a .before .before .judged .ensures), holds (a .before .accepts .ensures) (a .if1 .left))
+    rw (
+      c .guarded .ensures,
+      c .before .done .ensures,
+      c .before .before .with-state .ensures,
+      c .before .before .before .valid .ensures,
+    )
 
 pub set-cfg-spec : {M : Type 1} → statement M
 set-cfg-spec =
     tie.close
-    (tie.spec (λ c κs. search needs) (λ c κs. search needs) (λ c κs. search needs) returns (λ c κs. search needs) returns-2)
+    (tie.spec (λ c κs. search needs) (λ c κs. search needs) (λ c κs. search needs) (λ c κs. search needs) returns)

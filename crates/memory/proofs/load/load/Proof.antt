@@ -6,21 +6,17 @@ use Rattle.memory.proofs.Inside.{served}
 use Rattle.memory.proofs.load.load.Statement.{statement}
 use Rattle.memory.proofs.load.load.Tie as tie
 
-locate-requires : tie.Need-locate-requires
-locate-requires c κs = search needs
-
-enum-known-at : tie.Need-enum-known-at
-enum-known-at c = search needs
-
 read-requires : tie.Need-read-requires
-read-requires c κs = let s = served _ _ _ (sym (c .before .before .before .locate .ensures) ∙ c .before .at .given .1) in omega arith
-
-enum-told : tie.Need-enum-told
-enum-told c = search needs
+read-requires c κs =
+    let a = c .before in
+    let s = served _ _ _ (sym (a .before .before .locate .ensures) ∙ a .at .given .1) in
+    omega arith
 
 returns : tie.Need-returns
 unfolding loaded
-returns c = rw (sym (c .before .before .before .before .locate .ensures) ∙ c .before .before .at .given .1, c .read .ensures .equal)
+returns c =
+    let a = c .before .before in
+    rw (sym (a .before .before .locate .ensures) ∙ a .at .given .1, c .read .ensures .equal)
 
 returns-2 : tie.Need-returns-2
 unfolding loaded
@@ -28,4 +24,5 @@ returns-2 c = rw (sym (c .before .before .locate .ensures) ∙ c .enum-told .giv
 
 pub load-spec : {M : Type 1} → statement M
 load-spec =
-    tie.close (tie.spec locate-requires enum-known-at read-requires enum-told returns returns-2)
+    tie.close
+    (tie.spec (λ c κs. search needs) (λ c. search needs) read-requires (λ c. search needs) returns returns-2)

@@ -6,20 +6,11 @@ use Rattle.memory.proofs.Inside.{served}
 use Rattle.memory.proofs.store.store.Statement.{statement}
 use Rattle.memory.proofs.store.store.Tie as tie
 
-locate-requires : tie.Need-locate-requires
-locate-requires c κs = search needs
-
-enum-known-at : tie.Need-enum-known-at
-enum-known-at c = search needs
-
 write-requires : tie.Need-write-requires
-write-requires c κs = let s = served _ _ _ (sym (c .before .before .before .before .locate .ensures) ∙ c .before .before .at .given .1) in omega arith
-
-enum-told : tie.Need-enum-told
-enum-told c = search needs
-
-same-length : tie.Need-same-length
-same-length c = search needs
+write-requires c κs =
+    let a = c .before .before in
+    let s = served _ _ _ (sym (a .before .before .locate .ensures) ∙ a .at .given .1) in
+    omega arith
 
 returns : tie.Need-returns
 unfolding storeAnswer stored
@@ -35,4 +26,5 @@ returns-2 c = let e = sym (c .before .before .locate .ensures) ∙ c .enum-told 
 pub store-spec : {M : Type 1} → statement M
 store-spec =
     tie.close
-    (tie.spec locate-requires enum-known-at write-requires enum-told same-length returns returns-2)
+    (tie.spec (λ c κs. search needs) (λ c. search needs) write-requires (λ c. search needs) (λ c. search needs)
+    returns returns-2)

@@ -6,12 +6,8 @@ use Rattle.reading_lines.proofs.call.call_of.Tie as tie
 
 returns : tie.Need-returns
 unfolding wordsAfter forms callOf
-returns c = c .place .ensures
+returns c = c .place-in .ensures
 
 pub call-of-spec : {M : Type 1} → statement M
 call-of-spec =
-    tie.close
-    (tie.spec
-    (λ c. search needs)
-    (λ c κs. search needs)
-    returns)
+    tie.close (tie.spec (λ c. search needs) (λ c κs. search needs) returns)

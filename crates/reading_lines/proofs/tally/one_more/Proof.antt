@@ -4,18 +4,8 @@ use Rattle.reading_lines.specs.Tally.{oneMore}
 use Rattle.reading_lines.proofs.tally.one_more.Statement.{statement}
 use Rattle.reading_lines.proofs.tally.one_more.Tie as tie
 
-returns : tie.Need-returns
-unfolding oneMore
-returns c = rw (lt-ltb _ _ (c .if1 .taken))
-
-returns-2 : tie.Need-returns-2
-unfolding oneMore
-returns-2 c = rw (le-ltb _ _ (c .if1 .left))
-
 pub one-more-spec : {M : Type 1} → statement M
+unfolding oneMore
 one-more-spec =
     tie.close
-    (tie.spec
-    (λ c. search needs)
-    returns
-    returns-2)
+    (tie.spec (λ c. search needs) (λ c. rw (lt-ltb _ _ (c .if1 .taken))) (λ c. rw (le-ltb _ _ (c .if1 .left))))

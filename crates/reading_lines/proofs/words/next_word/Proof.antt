@@ -11,8 +11,4 @@ returns c =
 
 pub next-word-spec : {M : Type 1} → statement M
 next-word-spec =
-    tie.close
-    (tie.spec
-    (λ c κs. search needs)
-    (λ c κs. search needs)
-    returns)
+    tie.close (tie.spec (λ c κs. search needs) (λ c κs. search needs) returns)

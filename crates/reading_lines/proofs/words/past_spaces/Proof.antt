@@ -24,8 +24,9 @@ returns c =
 
 loop-again : tie.Need-loop-again Inv-loop μ-loop
 loop-again c =
-    let a = c .before .before .before in
-    (omega arith, omega arith, a .loop .inv .2 ∙ spaced (a .before .args .line .now) (a .loop .i) (omega arith) (c .if1 .left))
+    let l = c .before .before .before in
+    let same = l .loop .inv .2 ∙ spaced (l .before .args .line .now) (l .loop .i) (omega arith) (c .if1 .left) in
+    (omega arith, omega arith, same)
 
 returns-2 : tie.Need-returns-2 Inv-loop μ-loop
 returns-2 c = ((omega arith, omega arith), (c .before .loop .inv .2, λ h. absurd (omega arith)))
@@ -33,13 +34,5 @@ returns-2 c = ((omega arith, omega arith), (c .before .loop .inv .2, λ h. absur
 pub past-spaces-spec : {M : Type 1} → statement M
 past-spaces-spec =
     tie.close
-    (tie.spec
-    Inv-loop
-    μ-loop
-    loop-holds
-    (λ c. search needs)
-    returns
-    (λ c. search needs)
-    (λ c. search needs)
-    loop-again
-    returns-2)
+    (tie.spec Inv-loop μ-loop loop-holds (λ c. search needs) returns (λ c. search needs) (λ c. search needs)
+    loop-again returns-2)

@@ -1,5 +1,5 @@
 use Prim.Native.Nat.{_-_, _≤_}
-use mathlib.Core.Path.{_≡_, refl, _∙_}
+use mathlib.Core.Path.{_≡_, _∙_}
 use lib.ListN.{length, drop}
 use native.Mathlib.Omega.{arith}
 use borrow.Author.Needs.{needs}
@@ -9,7 +9,8 @@ use Rattle.reading_lines.proofs.words.word_end.Statement.{statement}
 use Rattle.reading_lines.proofs.words.word_end.Tie as tie
 
 abbrev Inv-loop : tie.InvT-loop
-Inv-loop line from i₀ i = (from ≤ i) × (i ≤ length line) × (wordsOf (drop from line) ≡ wordsAfter (part from i line) (drop i line))
+Inv-loop line from i₀ i =
+    (from ≤ i) × (i ≤ length line) × (wordsOf (drop from line) ≡ wordsAfter (part from i line) (drop i line))
 
 abbrev μ-loop : tie.MeasureT-loop
 μ-loop line from i₀ i = length line - i
@@ -21,30 +22,25 @@ loop-holds c =
 
 returns : tie.Need-returns Inv-loop μ-loop
 returns c =
-    let a = c .before .before .before in
-    ((omega arith, omega arith), (a .loop .inv .2 ∙ at-space (a .before .args .line .now) (a .loop .i) _ (omega arith) (c .if1 .taken), λ h. c .if1 .taken))
+    let l = c .before .before .before in
+    let same = l .loop .inv .2 ∙ at-space (l .before .args .line .now) (l .loop .i) _ (omega arith) (c .if1 .taken) in
+    ((omega arith, omega arith), (same, λ h. c .if1 .taken))
 
 loop-again : tie.Need-loop-again Inv-loop μ-loop
 loop-again c =
-    let a = c .before .before .before in
-    let line = a .before .args .line .now in
-    (omega arith, omega arith, rw (longer-part line (a .loop .i) (a .before .args .from) (omega arith) (omega arith)) (a .loop .inv .2 ∙ lettered line (a .loop .i) _ (omega arith) (c .if1 .left)))
+    let l = c .before .before .before in
+    let a = l .before .args in
+    let same = l .loop .inv .2 ∙ lettered (a .line .now) (l .loop .i) _ (omega arith) (c .if1 .left) in
+    (omega arith, omega arith, rw (longer-part (a .line .now) (l .loop .i) (a .from) (omega arith) (omega arith)) same)
 
 returns-2 : tie.Need-returns-2 Inv-loop μ-loop
 returns-2 c =
-    let a = c .before in
-    ((omega arith, omega arith), (a .loop .inv .2 ∙ at-end (a .before .args .line .now) (a .loop .i) _ (omega arith), λ h. absurd (omega arith)))
+    let l = c .before in
+    let same = l .loop .inv .2 ∙ at-end (l .before .args .line .now) (l .loop .i) _ (omega arith) in
+    ((omega arith, omega arith), (same, λ h. absurd (omega arith)))
 
 pub word-end-spec : {M : Type 1} → statement M
 word-end-spec =
     tie.close
-    (tie.spec
-    Inv-loop
-    μ-loop
-    loop-holds
-    (λ c. search needs)
-    returns
-    (λ c. search needs)
-    (λ c. search needs)
-    loop-again
-    returns-2)
+    (tie.spec Inv-loop μ-loop loop-holds (λ c. search needs) returns (λ c. search needs) (λ c. search needs)
+    loop-again returns-2)

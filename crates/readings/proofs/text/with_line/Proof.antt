@@ -5,27 +5,11 @@ use borrow.Author.Needs.{needs}
 use Rattle.readings.proofs.text.with_line.Statement.{statement}
 use Rattle.readings.proofs.text.with_line.Tie as tie
 
-slice-aggregate-memory-line : tie.Need-slice-aggregate-memory-line
-slice-aggregate-memory-line c = sym (length-take-le _ _ (omega arith))
-
-slice-aggregate-run : tie.Need-slice-aggregate-run
-slice-aggregate-run c = sym (length-take-le _ _ (omega arith))
-
 pub with-line-spec : {M : Type 1} → statement M
 with-line-spec =
     tie.close
-    (tie.spec
-    (λ c κs. search needs)
-    (λ c κs. search needs)
-    (λ c. search needs)
-    slice-aggregate-memory-line
-    (λ c κs. search needs)
-    (λ c κs. search needs)
-    (λ c κs. search needs)
-    (λ c κs. search needs)
-    (λ c. search needs)
-    slice-aggregate-run
-    (λ c κs. search needs)
-    (λ c κs. search needs)
-    (λ c. search needs)
-    (λ c. search needs))
+    (tie.spec (λ c κs. search needs) (λ c κs. search needs) (λ c. search needs)
+    (λ c. sym (length-take-le _ _ (omega arith)))
+    (λ c κs. search needs) (λ c κs. search needs) (λ c κs. search needs) (λ c κs. search needs) (λ c. search needs)
+    (λ c. sym (length-take-le _ _ (omega arith)))
+    (λ c κs. search needs) (λ c κs. search needs) (λ c. search needs) (λ c. search needs))

@@ -17,10 +17,4 @@ returns c =
 
 pub arithmetic-shift-spec : {M : Type 1} → statement M
 arithmetic-shift-spec =
-    tie.close
-    (tie.spec
-    (λ c κs. search needs)
-    (λ c. search needs)
-    (λ c. search needs)
-    (λ c κs. search needs)
-    returns)
+    tie.close (tie.spec (λ c κs. search needs) (λ c. search needs) (λ c. search needs) (λ c κs. search needs) returns)

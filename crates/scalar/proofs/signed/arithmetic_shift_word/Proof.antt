@@ -9,7 +9,8 @@ use Rattle.scalar.proofs.signed.arithmetic_shift_word.Tie as tie
 
 cast-of-i64-2 : tie.Need-cast-of-i64-2
 cast-of-i64-2 c =
-    let h = low-fits w32 tt (c .before .args .a) (c .to-i32 .ensures) in rw (toZ-ofZ h) (widened-fits tt (shift-fits _ h))
+    let h = low-fits w32 tt (c .before .args .a) (c .to-i32 .ensures) in
+    rw (toZ-ofZ h) (widened-fits tt (shift-fits _ h))
 
 returns : tie.Need-returns
 unfolding arithmeticShift
@@ -22,11 +23,5 @@ returns c =
 pub arithmetic-shift-word-spec : {M : Type 1} → statement M
 arithmetic-shift-word-spec =
     tie.close
-    (tie.spec
-    (λ c. search needs)
-    (λ c κs. search needs)
-    (λ c. search needs)
-    (λ c. search needs)
-    cast-of-i64-2
-    (λ c κs. search needs)
-    returns)
+    (tie.spec (λ c. search needs) (λ c κs. search needs) (λ c. search needs) (λ c. search needs) cast-of-i64-2
+    (λ c κs. search needs) returns)

@@ -10,36 +10,6 @@ use Rattle.scalar.proofs.TwosComplement.{extended-fits, extended}
 use Rattle.scalar.proofs.signed.sign_extend.Statement.{statement}
 use Rattle.scalar.proofs.signed.sign_extend.Tie as tie
 
-cast-of-i64 : tie.Need-cast-of-i64
-cast-of-i64 c = extended-fits w8 tt (c .before .before .before .args .value) (c .to-i8 .ensures)
-
-cast-of-i64-2 : tie.Need-cast-of-i64-2
-cast-of-i64-2 c = extended-fits w16 tt (c .before .before .before .args .value) (c .to-i16 .ensures)
-
-cast-of-i64-3 : tie.Need-cast-of-i64-3
-cast-of-i64-3 c = extended-fits w32 tt (c .before .before .before .args .value) (c .to-i32 .ensures)
-
-returns : tie.Need-returns
-unfolding signExtended
-returns c =
-    let s = c .before .before in
-    let e = c .before .to-i8 .ensures in
-    rw (s .enum-told .given .1) (c .of-i64 .ensures ∙ extended w8 tt (s .before .before .args .value) e)
-
-returns-2 : tie.Need-returns-2
-unfolding signExtended
-returns-2 c =
-    let s = c .before .before in
-    let e = c .before .to-i16 .ensures in
-    rw (s .enum-told2 .given .1) (c .of-i642 .ensures ∙ extended w16 tt (s .before .before .args .value) e)
-
-returns-3 : tie.Need-returns-3
-unfolding signExtended
-returns-3 c =
-    let s = c .before .before in
-    let e = c .before .to-i32 .ensures in
-    rw (s .enum-told3 .given .1) (c .of-i643 .ensures ∙ extended w32 tt (s .before .before .args .value) e)
-
 returns-4 : tie.Need-returns-4
 unfolding signExtended
 returns-4 c =
@@ -48,26 +18,20 @@ returns-4 c =
     rw (c .enum-told4 .given .1, e) (sym (ofZ-toZ (s .fits .value)))
 
 pub sign-extend-spec : {M : Type 1} → statement M
+unfolding signExtended
 sign-extend-spec =
     tie.close
-    (tie.spec
+    (tie.spec (λ c. search needs) (λ c. search needs) (λ c κs. search needs)
+    (λ c. extended-fits w8 tt (c .before .before .before .args .value) (c .to-i8 .ensures)) (λ c κs. search needs)
+    (λ c. search needs) (λ c. search needs) (λ c κs. search needs)
+    (λ c. extended-fits w16 tt (c .before .before .before .args .value) (c .to-i16 .ensures)) (λ c κs. search needs)
+    (λ c. search needs) (λ c. search needs) (λ c κs. search needs)
+    (λ c. extended-fits w32 tt (c .before .before .before .args .value) (c .to-i32 .ensures)) (λ c κs. search needs)
     (λ c. search needs)
-    (λ c. search needs)
-    (λ c κs. search needs)
-    cast-of-i64
-    (λ c κs. search needs)
-    (λ c. search needs)
-    (λ c. search needs)
-    (λ c κs. search needs)
-    cast-of-i64-2
-    (λ c κs. search needs)
-    (λ c. search needs)
-    (λ c. search needs)
-    (λ c κs. search needs)
-    cast-of-i64-3
-    (λ c κs. search needs)
-    (λ c. search needs)
-    returns
-    returns-2
-    returns-3
+    (λ c. let s = c .before .before in rw (s .enum-told .given .1)
+    (c .of-i64 .ensures ∙ extended w8 tt (s .before .before .args .value) (c .before .to-i8 .ensures)))
+    (λ c. let s = c .before .before in rw (s .enum-told2 .given .1)
+    (c .of-i642 .ensures ∙ extended w16 tt (s .before .before .args .value) (c .before .to-i16 .ensures)))
+    (λ c. let s = c .before .before in rw (s .enum-told3 .given .1)
+    (c .of-i643 .ensures ∙ extended w32 tt (s .before .before .args .value) (c .before .to-i32 .ensures)))
     returns-4)

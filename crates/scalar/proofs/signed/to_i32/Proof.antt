@@ -7,8 +7,5 @@ use Rattle.scalar.proofs.signed.to_i32.Tie as tie
 pub to-i32-spec : {M : Type 1} → statement M
 to-i32-spec =
     tie.close
-    (tie.spec
-    (λ c. search needs)
-    (λ c. search needs)
-    (λ c. search needs)
+    (tie.spec (λ c. search needs) (λ c. search needs) (λ c. search needs)
     (λ c. complement-twice w32 _ (c .before .fits .x)))

@@ -7,8 +7,5 @@ use Rattle.scalar.proofs.signed.to_i64.Tie as tie
 pub to-i64-spec : {M : Type 1} → statement M
 to-i64-spec =
     tie.close
-    (tie.spec
-    (λ c. search needs)
-    (λ c. search needs)
-    (λ c. search needs)
+    (tie.spec (λ c. search needs) (λ c. search needs) (λ c. search needs)
     (λ c. complement-twice w64 _ (c .before .fits .x)))

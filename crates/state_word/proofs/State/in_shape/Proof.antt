@@ -3,9 +3,6 @@ use Rattle.state_word.specs.State.{stateInShape}
 use Rattle.state_word.proofs.State.in_shape.Statement.{statement}
 use Rattle.state_word.proofs.State.in_shape.Tie as tie
 
-returns : tie.Need-returns
-unfolding stateInShape
-returns c = refl
-
 pub in-shape-spec : {M : Type 1} → statement M
-in-shape-spec = tie.close (tie.spec returns)
+unfolding stateInShape
+in-shape-spec = tie.close (tie.spec (λ c. refl))

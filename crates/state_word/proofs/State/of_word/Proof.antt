@@ -4,9 +4,6 @@ use Rattle.state_word.specs.State.{fields}
 use Rattle.state_word.proofs.State.of_word.Statement.{statement}
 use Rattle.state_word.proofs.State.of_word.Tie as tie
 
-returns : tie.Need-returns
-unfolding fields
-returns c = rw div-one
-
 pub of-word-spec : {M : Type 1} → statement M
-of-word-spec = tie.close (tie.spec (λ c. search needs) (λ c. search needs) returns)
+unfolding fields
+of-word-spec = tie.close (tie.spec (λ c. search needs) (λ c. search needs) (λ c. rw div-one))

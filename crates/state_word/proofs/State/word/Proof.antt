@@ -6,20 +6,13 @@ use Rattle.state_word.proofs.State.word.Tie as tie
 
 returns : tie.Need-returns
 unfolding wordOf
-returns c = rw (c .before .before .before .before .less-one .ensures, c .before .before .before .less-one2 .ensures, mul-one)
+returns c =
+    let a = c .before .before .before in
+    rw (a .before .less-one .ensures, a .less-one2 .ensures, mul-one)
 
 pub word-spec : {M : Type 1} → statement M
 word-spec =
     tie.close
-    (tie.spec
-    (λ c κs. search needs)
-    (λ c κs. search needs)
-    (λ c. search needs)
-    (λ c. search needs)
-    (λ c. search needs)
-    (λ c. search needs)
-    (λ c. search needs)
-    (λ c. search needs)
-    (λ c. search needs)
-    (λ c. search needs)
-    returns)
+    (tie.spec (λ c κs. search needs) (λ c κs. search needs) (λ c. search needs) (λ c. search needs)
+    (λ c. search needs) (λ c. search needs) (λ c. search needs) (λ c. search needs) (λ c. search needs)
+    (λ c. search needs) returns)

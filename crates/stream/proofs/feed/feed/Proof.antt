@@ -1,32 +1,26 @@
 use mathlib.Core.Path.{sym, _∙_}
-use Rattle.stream.specs.Feed.{feedOf}
+use Rattle.stream.specs.Feed.{fedInto}
 use borrow.Author.Needs.{needs}
 use Rattle.stream.proofs.feed.feed.Statement.{statement}
 use Rattle.stream.proofs.feed.feed.Tie as tie
 
-feed-acceptable-requires : tie.Need-feed-acceptable-requires
-feed-acceptable-requires c κs =
+feed-accepted-requires : tie.Need-feed-accepted-requires
+feed-accepted-requires c κs =
     let t = c .before .before in
-    sym (t .before .is-acceptable .ensures) ∙ t .if1 .taken
+    sym (t .before .acceptable .ensures) ∙ t .if1 .taken
 
 returns : tie.Need-returns
-unfolding feedOf
+unfolding fedInto
 returns c =
     let f = c .before .before .before .before in
     let t = f .before .before .before in
-    rw (sym (t .before .is-acceptable .ensures) ∙ t .if1 .taken) (f .feed-acceptable .ensures)
+    rw (sym (t .before .acceptable .ensures) ∙ t .if1 .taken) (f .feed-accepted .ensures)
 
 returns-2 : tie.Need-returns-2
-unfolding feedOf
-returns-2 c = rw (sym (c .before .is-acceptable .ensures) ∙ c .if1 .left)
+unfolding fedInto
+returns-2 c = rw (sym (c .before .acceptable .ensures) ∙ c .if1 .left)
 
 pub feed-spec : {M : Type 1} → statement M
 feed-spec =
     tie.close
-    (tie.spec
-    (λ c κs. search needs)
-    feed-acceptable-requires
-    (λ c. search needs)
-    (λ c. search needs)
-    returns
-    returns-2)
+    (tie.spec (λ c κs. search needs) feed-accepted-requires (λ c. search needs) (λ c. search needs) returns returns-2)

@@ -1,16 +1,16 @@
-use Rattle.stream.specs.Apply.{reportOf}
+use Rattle.stream.specs.Apply.{reportText}
 use borrow.Author.Needs.{needs}
 use Rattle.stream.proofs.report.put_report.Statement.{statement}
 use Rattle.stream.proofs.report.put_report.Tie as tie
 
 returns : tie.Need-returns
-unfolding reportOf
+unfolding reportText
 returns c =
     let p = c .before .before in
     rw (p .before .before .before .if1 .taken, ← p .before .number .ensures) (p .put-run .ensures)
 
 returns-2 : tie.Need-returns-2
-unfolding reportOf
+unfolding reportText
 returns-2 c =
     let p = c .before .before in
     rw (p .before .before .if1 .left) (p .put-setting .ensures)
@@ -18,11 +18,5 @@ returns-2 c =
 pub put-report-spec : {M : Type 1} → statement M
 put-report-spec =
     tie.close
-    (tie.spec
-    (λ c κs. search needs)
-    (λ c κs. search needs)
-    (λ c. search needs)
-    returns
-    (λ c κs. search needs)
-    (λ c. search needs)
-    returns-2)
+    (tie.spec (λ c κs. search needs) (λ c κs. search needs) (λ c. search needs) returns (λ c κs. search needs)
+    (λ c. search needs) returns-2)

@@ -16,7 +16,8 @@ unfolding settingText accepts
 returns-2 c =
     let p = c .before .before in
     let n = p .before .before .before in
-    rw (← n .number .ensures, ne-eqb _ _ (p .before .before .if1 .left)) (p .put-refused .ensures .0, omega (arith, p .put-refused .ensures .1))
+    rw (← n .number .ensures, ne-eqb _ _ (p .before .before .if1 .left))
+    (p .put-refused .ensures .0, omega (arith, p .put-refused .ensures .1))
 
 pub put-setting-spec : {M : Type 1} → statement M
 put-setting-spec =

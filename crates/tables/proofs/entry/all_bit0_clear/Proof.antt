@@ -22,21 +22,9 @@ loop-again : tie.Need-loop-again Inv-loop μ-loop
 unfolding clearBelow
 loop-again c = (omega arith, rw (add-one, div-one, c .before .before .loop .inv .1))
 
-returns : tie.Need-returns Inv-loop μ-loop
-returns c =
-    let all : c .before .loop .i ≡ 16 = omega arith in
-    rw all at (c .before .loop .inv .1)
-
 pub all-bit0-clear-spec : {M : Type 1} → statement M
 all-bit0-clear-spec =
     tie.close
-    (tie.spec
-    Inv-loop
-    μ-loop
-    loop-holds
-    (λ c. search needs)
-    (λ c. search needs)
-    (λ c. search needs)
-    (λ c. search needs)
-    loop-again
-    returns)
+    (tie.spec Inv-loop μ-loop loop-holds (λ c. search needs) (λ c. search needs) (λ c. search needs)
+    (λ c. search needs) loop-again
+    (λ c. let all : c .before .loop .i ≡ 16 = omega arith in rw all at (c .before .loop .inv .1)))

@@ -1,6 +1,4 @@
 use native.Mathlib.Omega.{arith}
-use mathlib.Core.Path.{sym, _∙_}
-use lib.ListN.{length-set}
 use borrow.Author.Needs.{needs}
 use Rattle.text.proofs.Digits.{one-digit, no-more-digits, last-digit, more-digits}
 use Rattle.text.proofs.Puts.{put-none, put-byte, put-length}
@@ -24,18 +22,6 @@ abbrev put-decimal-below : ℕ → In 1 put-decimal-kinds.ps
 put-decimal-below t =
     and 1 put-decimal-kinds.ps (falls 1 put-decimal-kinds.ps _<_ μ-put-decimal t) put-decimal.Pre
 
-put-decimal-cast-out : (t : ℕ) → put-decimal-lts.Need-cast-out (
-  put-decimal-below t,
-  put-decimal.Post,
-) (put-decimal-at t) put-decimal.Post
-put-decimal-cast-out t c = search needs
-
-put-decimal-add-out : (t : ℕ) → put-decimal-lts.Need-add-out (
-  put-decimal-below t,
-  put-decimal.Post,
-) (put-decimal-at t) put-decimal.Post
-put-decimal-add-out t c = search needs
-
 put-decimal-slice-write-out : (t : ℕ) → put-decimal-lts.Need-slice-write-out (
   put-decimal-below t,
   put-decimal.Post,
@@ -51,12 +37,6 @@ put-decimal-add-result : (t : ℕ) → put-decimal-lts.Need-add-result (
 put-decimal-add-result t c =
     let s = c .before .before in
     omega (arith, s .pre .1, no-more-digits (s .args .n) (c .if1 .taken))
-
-put-decimal-same-length : (t : ℕ) → put-decimal-lts.Need-same-length (
-  put-decimal-below t,
-  put-decimal.Post,
-) (put-decimal-at t) put-decimal.Post
-put-decimal-same-length t c = search needs
 
 put-decimal-returns : (t : ℕ) → put-decimal-lts.Need-returns (
   put-decimal-below t,
@@ -74,18 +54,6 @@ put-decimal-put-decimal-requires t c κs =
     let s = c .before .before .before in
     (omega (arith, s .pre .0), omega (arith, s .pre .1, more-digits (s .args .n) (c .before .if1 .left)))
 
-put-decimal-cast-out-2 : (t : ℕ) → put-decimal-lts.Need-cast-out-2 (
-  put-decimal-below t,
-  put-decimal.Post,
-) (put-decimal-at t) put-decimal.Post
-put-decimal-cast-out-2 t c = search needs
-
-put-decimal-add-out-2 : (t : ℕ) → put-decimal-lts.Need-add-out-2 (
-  put-decimal-below t,
-  put-decimal.Post,
-) (put-decimal-at t) put-decimal.Post
-put-decimal-add-out-2 t c = search needs
-
 put-decimal-slice-write-out-2 : (t : ℕ) → put-decimal-lts.Need-slice-write-out-2 (
   put-decimal-below t,
   put-decimal.Post,
@@ -93,7 +61,13 @@ put-decimal-slice-write-out-2 : (t : ℕ) → put-decimal-lts.Need-slice-write-o
 put-decimal-slice-write-out-2 t c =
     let s = c .before .before .before .before .before .before in
     let p = c .before .before .put-decimal .ensures in
-    omega (arith, s .pre .1, p .end, put-length p, more-digits (s .args .n) (c .before .before .before .before .if1 .left))
+    omega (
+      arith,
+      s .pre .1,
+      p .end,
+      put-length p,
+      more-digits (s .args .n) (c .before .before .before .before .if1 .left),
+    )
 
 put-decimal-add-result-2 : (t : ℕ) → put-decimal-lts.Need-add-result-2 (
   put-decimal-below t,
@@ -104,19 +78,14 @@ put-decimal-add-result-2 t c =
     let p = c .before .before .put-decimal .ensures in
     omega (arith, s .pre .1, p .end, more-digits (s .args .n) (c .before .before .before .before .if1 .left))
 
-put-decimal-same-length-2 : (t : ℕ) → put-decimal-lts.Need-same-length-2 (
-  put-decimal-below t,
-  put-decimal.Post,
-) (put-decimal-at t) put-decimal.Post
-put-decimal-same-length-2 t c = search needs
-
 put-decimal-returns-2 : (t : ℕ) → put-decimal-lts.Need-returns-2 (
   put-decimal-below t,
   put-decimal.Post,
 ) (put-decimal-at t) put-decimal.Post
 put-decimal-returns-2 t c =
     let s = c .before .before .before .before .before .before in
-    rw (last-digit (s .args .n) (c .before .before .before .before .if1 .left)) (put-byte _ (c .before .before .put-decimal .ensures))
+    rw (last-digit (s .args .n) (c .before .before .before .before .if1 .left))
+    (put-byte _ (c .before .before .put-decimal .ensures))
 
 pub +put-decimal-spec : {M : Type 1} → statement M
 +put-decimal-spec = close μ-put-decimal λ t. put-decimal-lts.spec (
@@ -125,16 +94,16 @@ pub +put-decimal-spec : {M : Type 1} → statement M
 )
     (put-decimal-at t)
     put-decimal.Post
-    (put-decimal-cast-out t)
-    (put-decimal-add-out t)
+    (λ c. search needs)
+    (λ c. search needs)
     (put-decimal-slice-write-out t)
     (put-decimal-add-result t)
-    (put-decimal-same-length t)
+    (λ c. search needs)
     (put-decimal-returns t)
     (put-decimal-put-decimal-requires t)
-    (put-decimal-cast-out-2 t)
-    (put-decimal-add-out-2 t)
+    (λ c. search needs)
+    (λ c. search needs)
     (put-decimal-slice-write-out-2 t)
     (put-decimal-add-result-2 t)
-    (put-decimal-same-length-2 t)
+    (λ c. search needs)
     (put-decimal-returns-2 t)

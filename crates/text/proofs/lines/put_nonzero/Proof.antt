@@ -6,13 +6,10 @@ use native.Mathlib.Omega.{arith}
 use Rattle.text.proofs.lines.put_nonzero.Statement.{statement}
 use Rattle.text.proofs.lines.put_nonzero.Tie as tie
 
-returns : tie.Need-returns
-unfolding nonzeroLine
-returns c = rw (eq-eqb _ _ (c .if1 .taken)) (put-none _ _, omega arith)
-
-returns-2 : tie.Need-returns-2
-unfolding nonzeroLine
-returns-2 c = rw (ne-eqb _ _ (c .before .before .before .before .if1 .left)) (c .before .before .put-register .ensures)
-
 pub put-nonzero-spec : {M : Type 1} → statement M
-put-nonzero-spec = tie.close (tie.spec returns (λ c κs. search needs) (λ c. search needs) returns-2)
+unfolding nonzeroLine
+put-nonzero-spec =
+    tie.close
+    (tie.spec (λ c. rw (eq-eqb _ _ (c .if1 .taken)) (put-none _ _, omega arith)) (λ c κs. search needs)
+    (λ c. search needs)
+    (λ c. rw (ne-eqb _ _ (c .before .before .before .before .if1 .left)) (c .before .before .put-register .ensures)))

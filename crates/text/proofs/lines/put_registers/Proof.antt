@@ -9,7 +9,8 @@ use Rattle.text.proofs.lines.put_registers.Statement.{statement}
 use Rattle.text.proofs.lines.put_registers.Tie as tie
 
 abbrev Inv-loop : tie.InvT-loop
-Inv-loop out₀ at registers next₀ i₀ out next i = (i ≤ 128) × (next ≤ at + 26 * i) × Put out₀ at (linesBelow registers i) out next
+Inv-loop out₀ at registers next₀ i₀ out next i =
+    (i ≤ 128) × (next ≤ at + 26 * i) × Put out₀ at (linesBelow registers i) out next
 
 abbrev μ-loop : tie.MeasureT-loop
 μ-loop out₀ at registers next₀ i₀ out next i = 128 - i
@@ -41,15 +42,5 @@ returns c =
 pub put-registers-spec : {M : Type 1} → statement M
 put-registers-spec =
     tie.close
-    (tie.spec
-    Inv-loop
-    μ-loop
-    loop-holds
-    (λ c. search needs)
-    (λ c. search needs)
-    put-nonzero-requires
-    (λ c. search needs)
-    (λ c. search needs)
-    loop-again
-    same-length
-    returns)
+    (tie.spec Inv-loop μ-loop loop-holds (λ c. search needs) (λ c. search needs) put-nonzero-requires
+    (λ c. search needs) (λ c. search needs) loop-again same-length returns)

@@ -1,6 +1,6 @@
 use mathlib.Core.Path.{_≡_, refl, sym, _∙_}
 use borrow.Author.Needs.{needs}
-use borrow.Author.Tests.{not-true, not-false}
+use borrow.Author.Tests.{not-false}
 use Rattle.pausable.specs.Walk.{walk}
 use Rattle.pausable.proofs.Turn.{walk-more, walk-end, walk-none}
 use Rattle.walk.specs.Context.{context, pausing}
@@ -30,11 +30,10 @@ unit-requires c κs = let l = c .before .before in (l .before .before .pre .0, l
 
 returns : tie.Need-returns Inv-loop μ-loop
 returns c =
-    let p = c .before in
-    let u = p .before in
-    let l = u .before .before .before in
-    let ended = sym (p .pauses .ensures) ∙ not-true _ (c .if1 .taken) in
-    walk-end _ _ _ _ _ (u .before .before .loop-test .taken) (u .unit .ensures) ended ∙ l .loop .inv .1
+    let u = c .before .before in
+    let t = u .before .before in
+    walk-end _ _ _ _ _ (t .loop-test .taken) (u .unit .ensures) (c .before .pauses .ensures) (c .if1 .taken)
+    ∙ t .before .loop .inv .1
 
 loop-again : tie.Need-loop-again Inv-loop μ-loop
 unfolding loadUnit
@@ -53,14 +52,5 @@ returns-2 c = walk-none _ _ _ _ (c .loop-test .left) ∙ c .before .loop .inv .1
 pub walk-spec : {M : Type 1} → statement M
 walk-spec =
     tie.close
-    (tie.spec
-    Inv-loop
-    μ-loop
-    loop-holds
-    unit-requires
-    (λ c κs. search needs)
-    returns
-    (λ c. search needs)
-    (λ c. search needs)
-    loop-again
-    returns-2)
+    (tie.spec Inv-loop μ-loop loop-holds unit-requires (λ c κs. search needs) returns (λ c. search needs)
+    (λ c. search needs) loop-again returns-2)

@@ -1,29 +1,23 @@
 use Prim.Native.Nat.{_<_}
-use mathlib.Core.Path.{_≡_, sym, _∙_}
+use mathlib.Core.Path.{sym, _∙_}
 use borrow.Author.Needs.{needs}
 use Rattle.memory.proofs.Transfer.{stored-outside}
-use Rattle.pairs.specs.declared.Pair.the-variants.{Found, End}
 use Rattle.accesses.specs.Storing.{storeUnit}
-use Rattle.transfers.specs.Transfer.{pairOf}
 use Rattle.accesses.proofs.Elements.{store-done, store-outside}
 use Rattle.transfers.proofs.TransferLaws.{Reached, reached, unit-end, unit-moved, unit-outside}
 use Rattle.accesses.proofs.storing.StorePlan.unit.Statement.{statement}
 use Rattle.accesses.proofs.storing.StorePlan.unit.Tie as tie
 
--- the pair that was found
-found :
-    (c : tie.After-known-told) →
-    let args = c .before .before .before .before .before .before .args in
-    let i = c .before .i .given .0 in
-    pairOf (args .self .sides) (args .position) ≡ Found (i .0) (i .1 .0)
-found c = sym (c .before .before .before .find .ensures) ∙ c .before .i .given .1
-
+-- what is known of the pair that was found
 at-pair :
     (c : tie.After-known-told) →
     let args = c .before .before .before .before .before .before .args in
     let i = c .before .i .given .0 in
     Reached (args .self .sides) (i .0) (i .1 .0)
-at-pair c = let pre = c .before .before .before .before .before .before .pre in reached _ _ _ _ (pre .0) (pre .1) (found c)
+at-pair c =
+    let f = c .before .before .before in
+    let pre = f .before .before .before .pre in
+    reached _ _ _ _ _ (pre .0) (pre .1) (f .find .ensures) (c .before .i .given .1)
 
 address-at-requires : tie.Need-address-at-requires
 address-at-requires c κs = let r = at-pair c in (r .destination, r .j-below)
@@ -47,7 +41,7 @@ returns : tie.Need-returns
 unfolding storeUnit
 returns c =
     let a = c .before in
-    rw (c .ended .ensures) (unit-end _ _ _ _ (sym (a .before .before .find .ensures) ∙ a .enum-told .given .1))
+    rw (c .ended .ensures) (unit-end _ _ _ _ _ (a .before .before .find .ensures) (a .enum-told .given .1))
 
 returns-2 : tie.Need-returns-2
 unfolding storeUnit
@@ -55,9 +49,11 @@ returns-2 c =
     let s = c .before .before .before .before .before in
     let v = s .before .before .before in
     let a = v .before in
+    let p = a .before .before in
     let done = sym (s .put .ensures .0) ∙ c .before .enum-told2 .given .1 in
     rw (c .after .ensures, s .put .ensures .1, v .at .ensures)
-    (unit-moved _ _ _ _ _ _ (found (a .before)) _ _ (store-done _ _ _ _ _ (a .address-at .ensures) done))
+    (unit-moved _ _ _ _ _ (p .before .before .find .ensures) _ _ (p .i .given .1) _ _
+    (store-done _ _ _ _ _ (a .address-at .ensures) done))
 
 returns-3 : tie.Need-returns-3
 unfolding storeUnit
@@ -65,29 +61,15 @@ returns-3 c =
     let s = c .before .before .before .before .before in
     let v = s .before .before .before in
     let a = v .before in
+    let p = a .before .before in
     let refused = sym (s .put .ensures .0) ∙ c .before .enum-told3 .given .1 in
     rw (c .faulted .ensures, s .put .ensures .1, stored-outside _ _ _ _ refused)
-    (unit-outside _ _ _ _ _ _ (found (a .before)) _ (store-outside _ _ _ _ _ (a .address-at .ensures) refused))
+    (unit-outside _ _ _ _ _ (p .before .before .find .ensures) _ _ (p .i .given .1) _
+    (store-outside _ _ _ _ _ (a .address-at .ensures) refused))
 
 pub unit-spec : {M : Type 1} → statement M
 unit-spec =
     tie.close
-    (tie.spec
-    (λ c κs. search needs)
-    (λ c. search needs)
-    (λ c κs. search needs)
-    (λ c. search needs)
-    address-at-requires
-    at-requires
-    mul-value
-    from-below
-    (λ c κs. search needs)
-    (λ c. search needs)
-    after-requires
-    (λ c. search needs)
-    (λ c κs. search needs)
-    returns
-    (λ c. search needs)
-    returns-2
-    (λ c. search needs)
-    returns-3)
+    (tie.spec (λ c κs. search needs) (λ c. search needs) (λ c κs. search needs) (λ c. search needs)
+    address-at-requires at-requires mul-value from-below (λ c κs. search needs) (λ c. search needs) after-requires
+    (λ c. search needs) (λ c κs. search needs) returns (λ c. search needs) returns-2 (λ c. search needs) returns-3)

@@ -1,6 +1,6 @@
 use mathlib.Core.Path.{_≡_, refl, sym, _∙_}
 use borrow.Author.Needs.{needs}
-use borrow.Author.Tests.{not-true, not-false}
+use borrow.Author.Tests.{not-false}
 use lib.ListN.{length}
 use Rattle.pausable.specs.Walk.{walk}
 use Rattle.pausable.proofs.Turn.{walk-more, walk-end, walk-none}
@@ -37,11 +37,10 @@ same-length c =
 
 returns : tie.Need-returns Inv-loop μ-loop
 returns c =
-    let p = c .before in
-    let u = p .before .before .before in
-    let l = u .before .before .before in
-    let ended = sym (p .pauses .ensures) ∙ not-true _ (c .if1 .taken) in
-    walk-end _ _ _ _ _ (u .before .before .loop-test .taken) (u .unit .ensures) ended ∙ l .loop .inv .2
+    let u = c .before .before .before .before in
+    let t = u .before .before in
+    walk-end _ _ _ _ _ (t .loop-test .taken) (u .unit .ensures) (c .before .pauses .ensures) (c .if1 .taken)
+    ∙ t .before .loop .inv .2
 
 loop-again : tie.Need-loop-again Inv-loop μ-loop
 unfolding storeUnit
@@ -64,16 +63,5 @@ returns-2 c = walk-none _ _ _ _ (c .loop-test .left) ∙ c .before .loop .inv .2
 pub walk-spec : {M : Type 1} → statement M
 walk-spec =
     tie.close
-    (tie.spec
-    Inv-loop
-    μ-loop
-    loop-holds
-    unit-requires
-    (λ c κs. search needs)
-    same-length
-    returns
-    (λ c. search needs)
-    (λ c. search needs)
-    loop-again
-    same-length-2
-    returns-2)
+    (tie.spec Inv-loop μ-loop loop-holds unit-requires (λ c κs. search needs) same-length returns (λ c. search needs)
+    (λ c. search needs) loop-again same-length-2 returns-2)

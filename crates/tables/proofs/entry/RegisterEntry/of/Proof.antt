@@ -3,8 +3,5 @@ use borrow.Author.Needs.{needs}
 use Rattle.tables.proofs.entry.RegisterEntry.of.Statement.{statement}
 use Rattle.tables.proofs.entry.RegisterEntry.of.Tie as tie
 
-returns : tie.Need-returns
-returns c = rw (div-one)
-
 pub of-spec : {M : Type 1} → statement M
-of-spec = tie.close (tie.spec (λ c. search needs) (λ c. search needs) (λ c. search needs) returns)
+of-spec = tie.close (tie.spec (λ c. search needs) (λ c. search needs) (λ c. search needs) (λ c. rw (div-one)))

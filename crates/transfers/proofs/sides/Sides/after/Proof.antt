@@ -39,7 +39,7 @@ returns-4 c =
     let source = rw next at (a .past .ensures) in
     let destination = rw next2 at (b .past2 .ensures) in
     rw (
-      c .at .ensures,
+      c .onward .ensures,
       next,
       next2,
       a .before .if1 .left,
@@ -50,16 +50,6 @@ returns-4 c =
 pub after-spec : {M : Type 1} → statement M
 after-spec =
     tie.close
-    (tie.spec
-    (λ c κs. search needs)
-    (λ c κs. search needs)
-    (λ c κs. search needs)
-    returns
-    (λ c κs. search needs)
-    (λ c κs. search needs)
-    returns-2
-    (λ c κs. search needs)
-    (λ c κs. search needs)
-    returns-3
-    (λ c κs. search needs)
+    (tie.spec (λ c κs. search needs) (λ c κs. search needs) (λ c κs. search needs) returns (λ c κs. search needs)
+    (λ c κs. search needs) returns-2 (λ c κs. search needs) (λ c κs. search needs) returns-3 (λ c κs. search needs)
     returns-4)

@@ -1,5 +1,5 @@
 use borrow.Author.Needs.{needs}
-use Rattle.pairs.proofs.Laws.{start-in}
+use Rattle.pairs.proofs.Found.{start-in}
 use Rattle.transfers.specs.Transfer.{pairOf}
 use Rattle.transfers.proofs.sides.Sides.find.Statement.{statement}
 use Rattle.transfers.proofs.sides.Sides.find.Tie as tie

@@ -1,6 +1,6 @@
 use mathlib.Core.Path.{_≡_, refl, sym, _∙_}
 use borrow.Author.Needs.{needs}
-use borrow.Author.Tests.{not-true, not-false}
+use borrow.Author.Tests.{not-false}
 use mathlib.Core.List.{List, []}
 use Prim.Native.Nat.{ℕ}
 use Rattle.pausable.specs.Walk.{walk}
@@ -34,11 +34,10 @@ unit-requires c κs = let l = c .before .before in (l .before .pre .0, l .loop .
 returns : tie.Need-returns Inv-loop μ-loop
 returns c =
     λ memory.
-    let p = c .before in
-    let u = p .before in
-    let l = u .before .before .before in
-    let ended = sym (p .pauses .ensures) ∙ not-true _ (c .if1 .taken) in
-    walk-end _ _ _ _ _ (u .before .before .loop-test .taken) (u .move-unit .ensures memory) ended ∙ l .loop .inv .1 memory
+    let u = c .before .before in
+    let t = u .before .before in
+    walk-end _ _ _ _ _ (t .loop-test .taken) (u .move-unit .ensures memory) (c .before .pauses .ensures) (c .if1 .taken)
+    ∙ t .before .loop .inv .1 memory
 
 loop-again : tie.Need-loop-again Inv-loop μ-loop
 unfolding moveUnit
@@ -49,7 +48,8 @@ loop-again c =
     let paused = sym (p .pauses .ensures) ∙ not-false _ (c .before .if1 .left) in (
       unit-within _ _ _ _ (l .loop .inv .0) _ (u .move-unit .ensures []) paused,
       λ memory.
-          walk-more _ _ _ _ _ (u .before .before .loop-test .taken) (u .move-unit .ensures memory) paused ∙ l .loop .inv .1 memory,
+          walk-more _ _ _ _ _ (u .before .before .loop-test .taken) (u .move-unit .ensures memory) paused
+          ∙ l .loop .inv .1 memory,
     )
 
 returns-2 : tie.Need-returns-2 Inv-loop μ-loop
@@ -58,14 +58,5 @@ returns-2 c = λ memory. walk-none _ _ _ _ (c .loop-test .left) ∙ c .before .l
 pub move-walk-spec : {M : Type 1} → statement M
 move-walk-spec =
     tie.close
-    (tie.spec
-    Inv-loop
-    μ-loop
-    loop-holds
-    unit-requires
-    (λ c κs. search needs)
-    returns
-    (λ c. search needs)
-    (λ c. search needs)
-    loop-again
-    returns-2)
+    (tie.spec Inv-loop μ-loop loop-holds unit-requires (λ c κs. search needs) returns (λ c. search needs)
+    (λ c. search needs) loop-again returns-2)

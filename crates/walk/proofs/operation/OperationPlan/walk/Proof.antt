@@ -1,9 +1,8 @@
 use Prim.Native.Nat.{ℕ, _<_}
 use mathlib.Core.List.{List}
 use mathlib.Core.Path.{_≡_, refl, sym, _∙_}
-use native.Mathlib.Omega.{arith}
 use borrow.Author.Needs.{needs}
-use borrow.Author.Tests.{not-true, not-false}
+use borrow.Author.Tests.{not-false}
 use Rattle.pausable.specs.Walk.{walk}
 use Rattle.pausable.proofs.Turn.{walk-more, walk-end, walk-none}
 use Rattle.walk.specs.Context.{context, pausing}
@@ -30,38 +29,27 @@ unit-requires c κs = (c .before .before .before .pre .0, c .before .before .loo
 
 returns : tie.Need-returns Inv-loop μ-loop
 returns c memory =
-    let turn = c .before .before .before .before in
-    let some : 0 < turn .before .loop .left = omega (arith, turn .loop-test .taken) in
-    walk-end pausing _ _ _ _ some (c .before .before .unit .ensures memory)
-    (sym (c .before .pauses .ensures) ∙ not-true _ (c .if1 .taken))
-    ∙ turn .before .loop .inv .1 memory
+    let u = c .before .before in
+    let t = u .before .before in
+    walk-end _ _ _ _ _ (t .loop-test .taken) (u .unit .ensures memory) (c .before .pauses .ensures) (c .if1 .taken)
+    ∙ t .before .loop .inv .1 memory
 
 loop-again : tie.Need-loop-again Inv-loop μ-loop
 loop-again c =
-    let ran = c .before .before .before in
-    let turn = ran .before .before in
-    let some : 0 < turn .before .loop .left = omega (arith, turn .loop-test .taken) in
-    let paused = sym (c .before .before .pauses .ensures) ∙ not-false _ (c .before .if1 .left) in (
-      paused-below _ _ _ _ _ (ran .unit .ensures) paused,
+    let p = c .before .before in
+    let u = p .before in
+    let t = u .before .before in
+    let paused = sym (p .pauses .ensures) ∙ not-false _ (c .before .if1 .left) in (
+      paused-below _ _ _ _ _ (u .unit .ensures) paused,
       λ memory.
-          walk-more pausing _ _ _ _ some (ran .unit .ensures memory) paused
-          ∙ turn .before .loop .inv .1 memory,
+          walk-more _ _ _ _ _ (t .loop-test .taken) (u .unit .ensures memory) paused ∙ t .before .loop .inv .1 memory,
     )
 
 returns-2 : tie.Need-returns-2 Inv-loop μ-loop
-returns-2 c memory = walk-none pausing _ _ _ (c .loop-test .left) ∙ c .before .loop .inv .1 memory
+returns-2 c memory = walk-none _ _ _ _ (c .loop-test .left) ∙ c .before .loop .inv .1 memory
 
 pub walk-spec : {M : Type 1} → statement M
 walk-spec =
     tie.close
-    (tie.spec
-    Inv-loop
-    μ-loop
-    loop-holds
-    unit-requires
-    (λ c κs. search needs)
-    returns
-    (λ c. search needs)
-    (λ c. search needs)
-    loop-again
-    returns-2)
+    (tie.spec Inv-loop μ-loop loop-holds unit-requires (λ c κs. search needs) returns (λ c. search needs)
+    (λ c. search needs) loop-again returns-2)
