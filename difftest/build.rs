@@ -10,6 +10,6 @@ fn main() {
         Err(_) => package.join("../target/staticlib"),
     };
     println!("cargo:rustc-link-search=native={}", folder.display());
-    println!("cargo:rerun-if-changed={}", folder.join("libembed.a").display());
+    println!("cargo:rerun-if-changed={}", folder.join("libsimplev.a").display());
     println!("cargo:rerun-if-env-changed=SIMPLEV_LIB_DIR");
 }

@@ -4,8 +4,8 @@
  *
  * Prints what happens, checks it, and ends with status 1 where something is not as it should be. Build it with
  *
- *     rt staticlib embed
- *     gcc -Iinclude examples/slices.c target/staticlib/libembed.a -o slices
+ *     rt staticlib simplev
+ *     gcc -Iinclude examples/slices.c target/staticlib/libsimplev.a -o slices
  */
 #include "simplev.h"
 #include <inttypes.h>

@@ -4,7 +4,7 @@
  * on them in place. The library keeps nothing and allocates nothing, and needs nothing of C's but `memset` and
  * `memcpy`. A call may be made from any thread, as long as no other call has the same machine or memory at that time.
  *
- * Link with libembed.a (`rt staticlib embed` writes target/staticlib/libembed.a).
+ * Link with libsimplev.a (`rt staticlib simplev` writes target/staticlib/libsimplev.a).
  *
  * What each function of the library guarantees, whatever the machine, the word, the memory and the arguments hold
  * (proved of its source, see docs/CONTRACTS.md, sections "C interface" and "The three demands"):

@@ -3,7 +3,7 @@
 use difftest::calls::{Call, Outcome};
 use difftest::machine::{Machine, ENTRIES, REGISTERS};
 
-#[link(name = "embed", kind = "static")]
+#[link(name = "simplev", kind = "static")]
 extern "C" {
     fn simplev_fresh(r: *mut u64, c: *mut u64, t: *mut u16, p: *mut u16);
     #[rustfmt::skip]

@@ -1,7 +1,7 @@
 #!/usr/bin/env python3
-"""The streams of tests/streams: that crates/streams has their bytes, and the output that the model of the requirements gives.
+"""The streams of tests/streams: that crates/test_streams has their bytes, and the output that the model of the requirements gives.
 
-usage: streams_test.py [--write]    --write makes crates/streams' data, args and stdout anew
+usage: streams_test.py [--write]    --write makes crates/test_streams' data, args and stdout anew
 """
 import importlib.machinery
 import importlib.util
@@ -15,7 +15,7 @@ sys.path.insert(0, str(HERE))
 import model
 
 ROOT = HERE.parent.parent
-CRATE = ROOT / "crates" / "streams"
+CRATE = ROOT / "crates" / "test_streams"
 loader = importlib.machinery.SourceFileLoader("stream", str(HERE.parent / "stream"))
 stream = importlib.util.module_from_spec(importlib.util.spec_from_loader("stream", loader))
 loader.exec_module(stream)
@@ -44,7 +44,7 @@ def sources():
 
 
 def wanted():
-    """Path and contents of each file that crates/streams has to have."""
+    """Path and contents of each file that crates/test_streams has to have."""
     streams = {name: stream.encode(text) for name, text in sources().items()}
     files = {f"data/{name}.bin": data for name, data in streams.items()}
     files["args"] = "".join(f"{name}.bin\n" for name in streams).encode()
@@ -60,7 +60,7 @@ def main():
             (CRATE / name).write_bytes(data)
     for name, data in files.items():
         if not (CRATE / name).exists() or (CRATE / name).read_bytes() != data:
-            sys.exit(f"streams_test: crates/streams/{name} is not what tests/streams and the model give")
+            sys.exit(f"streams_test: crates/test_streams/{name} is not what tests/streams and the model give")
     extra = {f"data/{path.name}" for path in (CRATE / "data").iterdir()} - set(files)
     if extra:
         sys.exit(f"streams_test: no source for {', '.join(sorted(extra))}")

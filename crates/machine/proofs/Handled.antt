@@ -6,14 +6,14 @@ use native.Mathlib.Omega.{arith}
 use Rattle.answers.specs.declared.Answer.{Answer}
 use Rattle.answers.specs.declared.Answer.the-variants.{OutOfShape}
 use Rattle.answers.specs.Answer.{pauses}
-use Rattle.pausable.specs.Outcome.{Outcome, outcome}
-use Rattle.pausable.specs.Walk.{walk}
-use Rattle.pausable.specs.Call.{Prepared, refused, ready, begun}
+use Rattle.walk_pausable.specs.Outcome.{Outcome, outcome}
+use Rattle.walk_pausable.specs.Walk.{walk}
+use Rattle.walk_pausable.specs.Call.{Prepared, refused, ready, begun}
 use Rattle.state_word.proofs.States.{bounds}
-use Rattle.walk.specs.Context.{Context, pausing}
-use Rattle.transfers.specs.SidesReady.{Within}
-use Rattle.handler.specs.Prepare.{Plan, prepared}
-use Rattle.handler.specs.Unit.{unitOf, handled}
+use Rattle.walk_operations.specs.Context.{Context, pausing}
+use Rattle.walk_transfers.specs.SidesReady.{Within}
+use Rattle.walk_handler.specs.Prepare.{Plan, prepared}
+use Rattle.walk_handler.specs.Unit.{unitOf, handled}
 use Rattle.machine.specs.declared.Machine.{Machine}
 use Rattle.machine.specs.Shape.{inShape}
 use Rattle.machine.specs.Run.{System, contextOf, positionOf, withContext, wordOn, prepare, unit, run}

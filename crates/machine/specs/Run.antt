@@ -6,13 +6,13 @@ use Rattle.answers.specs.declared.Answer.{Answer}
 use Rattle.answers.specs.declared.Answer.the-variants.{OutOfShape}
 use Rattle.decode.specs.declared.decoded.Decoded.{Decoded}
 use Rattle.decode.specs.Decoding.{decoded}
-use Rattle.pausable.specs.Outcome.{Outcome, outcome}
-use Rattle.pausable.specs.Call.{Prepared, refused, called}
+use Rattle.walk_pausable.specs.Outcome.{Outcome, outcome}
+use Rattle.walk_pausable.specs.Call.{Prepared, refused, called}
 use Rattle.state_word.specs.State.{withOffsets}
-use Rattle.walk.specs.declared.position.Position.{Position}
-use Rattle.walk.specs.Context.{Context, context, pausing}
-use Rattle.handler.specs.Prepare.{Plan, prepared}
-use Rattle.handler.specs.Unit.{unitOf}
+use Rattle.walk_operations.specs.declared.position.Position.{Position}
+use Rattle.walk_operations.specs.Context.{Context, context, pausing}
+use Rattle.walk_handler.specs.Prepare.{Plan, prepared}
+use Rattle.walk_handler.specs.Unit.{unitOf}
 use Rattle.machine.specs.declared.Machine.{Machine}
 use Rattle.machine.specs.Shape.{inShape}
 use Rattle.machine.specs.Update.{withRegisters, withPc, withState}

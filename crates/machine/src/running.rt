@@ -1,14 +1,14 @@
 // The run call, and one unit of it.
 ghost use mathlib.Core.Path.{_≡_};
 ghost use mathlib.Core.Bool.{true};
-ghost use Rattle.pausable.specs.Outcome.{outcome};
+ghost use Rattle.walk_pausable.specs.Outcome.{outcome};
 ghost use Rattle.machine.specs.Shape.{inShape};
 ghost use Rattle.machine.specs.Run.{system, run, step};
 use crate::Machine;
 use crate::Reply;
 use answers::Answer;
 use decode::decode;
-use walk::position::Position;
+use walk_operations::position::Position;
 
 impl Machine {
     // The run of a machine in shape. Its registers are lent, and worked on in place.
@@ -30,7 +30,7 @@ impl Machine {
             &self.register_table,
             &self.predicate_table,
         );
-        let ran = handler::run(
+        let ran = walk_handler::run(
             decoded,
             self.state.vl,
             position,

@@ -9,15 +9,15 @@ use lib.ListN.{length, drop, replicate, length-append}
 use lib.Seq.{drop-append-seam}
 use Rattle.machine.specs.declared.Machine.{Machine}
 use Rattle.machine.specs.Shape.{freshMachine}
-use Rattle.records.specs.declared.reader.Reader.{Reader}
-use Rattle.records.specs.Reader.{freshReader, progressOf}
-use Rattle.stream.specs.declared.feed.Text.{Text}
-use Rattle.stream.specs.declared.feed.Text.the-variants.{Written}
-use Rattle.stream.specs.declared.feed.Fed as declared
-use Rattle.stream.specs.Stream.{Stream, Fed, fed, lastText, finished, freshStream, output}
-use Rattle.stream.specs.Feed.{acceptable, streamOf, feedResult, fedInto, textOut, writtenIf, lastRoom, finishedInto}
-use Rattle.stream.proofs.Fed.{fed-append}
-use Rattle.stream.proofs.Texts.{Wrote, written-if, fed-text, fed-stream}
+use Rattle.stream_records.specs.declared.reader.Reader.{Reader}
+use Rattle.stream_records.specs.Reader.{freshReader, progressOf}
+use Rattle.stream_feed.specs.declared.feed.Text.{Text}
+use Rattle.stream_feed.specs.declared.feed.Text.the-variants.{Written}
+use Rattle.stream_feed.specs.declared.feed.Fed as declared
+use Rattle.stream_feed.specs.Stream.{Stream, Fed, fed, lastText, finished, freshStream, output}
+use Rattle.stream_feed.specs.Feed.{acceptable, streamOf, feedResult, fedInto, textOut, writtenIf, lastRoom, finishedInto}
+use Rattle.stream_feed.proofs.Fed.{fed-append}
+use Rattle.stream_feed.proofs.Texts.{Wrote, written-if, fed-text, fed-stream}
 use Rattle.stream_io.specs.Output.{Next, Holds, Sends, Whole, Reached}
 use Rattle.stream_io.specs.declared.Sent.{Sent}
 use Rattle.stream_io.specs.declared.Sent.the-variants.{Upto}

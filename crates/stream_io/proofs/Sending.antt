@@ -7,11 +7,11 @@ use mathlib.Core.List.{List}
 use lib.ListN.{length, take}
 use lib.Seq.{length-take-le}
 use Rattle.machine.specs.declared.Machine.{Machine}
-use Rattle.records.specs.declared.reader.Reader.{Reader}
-use Rattle.stream.specs.declared.feed.Text.{Text}
-use Rattle.stream.specs.declared.feed.Text.the-variants.{Written}
-use Rattle.stream.specs.Feed.{streamOf, textOut, writtenIf}
-use Rattle.stream.proofs.Texts.{wrote-within, wrote-text, written-if}
+use Rattle.stream_records.specs.declared.reader.Reader.{Reader}
+use Rattle.stream_feed.specs.declared.feed.Text.{Text}
+use Rattle.stream_feed.specs.declared.feed.Text.the-variants.{Written}
+use Rattle.stream_feed.specs.Feed.{streamOf, textOut, writtenIf}
+use Rattle.stream_feed.proofs.Texts.{wrote-within, wrote-text, written-if}
 use Rattle.stream_io.specs.Output.{Next, Holds, Sends, Whole, Reached, Turned}
 use Rattle.stream_io.specs.declared.Sent.{Sent}
 use Rattle.stream_io.specs.declared.Sent.the-variants.{Upto, Stopped}

@@ -4,10 +4,10 @@ use mathlib.Core.Path.{_≡_}
 use mathlib.Core.Bool.{Bool, true, false, cond}
 use mathlib.Core.List.{List}
 use lib.ListN.{length, take, drop}
-use Rattle.stream.specs.declared.feed.Text.{Text}
-use Rattle.stream.specs.declared.feed.Text.the-variants.{Written}
-use Rattle.stream.specs.Stream.{Stream, fed, freshStream, output}
-use Rattle.stream.specs.Feed.{streamOf}
+use Rattle.stream_feed.specs.declared.feed.Text.{Text}
+use Rattle.stream_feed.specs.declared.feed.Text.the-variants.{Written}
+use Rattle.stream_feed.specs.Stream.{Stream, fed, freshStream, output}
+use Rattle.stream_feed.specs.Feed.{streamOf}
 use Rattle.stream_io.specs.declared.Sent.{Sent}
 use Rattle.stream_io.specs.declared.Sent.the-variants.{Upto}
 use Rattle.stream_io.specs.declared.Turn.{Turn}

@@ -1,18 +1,18 @@
 // A record stream read from a descriptor, applied to a fresh machine, and what it prints written to standard output.
 ghost use mathlib.Core.Path.{_≡_};
 ghost use lib.ListN.{length, replicate};
-ghost use Rattle.records.specs.Reader.{progressOf};
-ghost use Rattle.stream.specs.Feed.{streamOf};
-ghost use Rattle.stream.specs.Stream.{lastText};
-ghost use Rattle.stream.specs.declared.feed.Text.the-variants.{Written};
+ghost use Rattle.stream_records.specs.Reader.{progressOf};
+ghost use Rattle.stream_feed.specs.Feed.{streamOf};
+ghost use Rattle.stream_feed.specs.Stream.{lastText};
+ghost use Rattle.stream_feed.specs.declared.feed.Text.the-variants.{Written};
 ghost use Rattle.stream_io.specs.Output.{Next, Holds, Sends, Whole, Reached, Turned};
 use libc::STDIN_FILENO;
 use libc::STDOUT_FILENO;
 use machine::Machine;
-use records::reader::Reader;
-use stream::feed::Text;
-use stream::feed::feed;
-use stream::finish::finish;
+use stream_records::reader::Reader;
+use stream_feed::feed::Text;
+use stream_feed::feed::feed;
+use stream_feed::finish::finish;
 
 pub enum Sent {
     // How many bytes of the output are written.

@@ -1,6 +1,6 @@
 use mathlib.Core.Path.{_≡_, refl, _∙_}
 use lib.ListN.{length}
-use Rattle.stream.specs.Feed.{streamOf}
+use Rattle.stream_feed.specs.Feed.{streamOf}
 use Rattle.stream_io.specs.Output.{Reached}
 use Rattle.stream_io.proofs.Sending.{not-whole}
 use Rattle.stream_io.proofs.Onward.{begun}

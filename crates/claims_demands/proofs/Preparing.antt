@@ -1,0 +1,102 @@
+-- What a word that was prepared says of its plan, and when it is prepared alike again.
+use Prim.Native.Nat.{ℕ, _≤_}
+use mathlib.Core.Logic.{inl, inr}
+use mathlib.Core.Path.{_≡_, refl}
+use mathlib.Core.Bool.{Bool, true, false, cond, not, _&&_}
+use mathlib.Core.List.{List}
+use native.Mathlib.Omega.{arith}
+use borrow.Author.Tests.{eqb-true, eqb-false, leb-true, not-true}
+use lib.Dec.{eqb, leb}
+use lib.ListN.{getD}
+use Rattle.answers.specs.declared.Answer.{Answer}
+use Rattle.answers.specs.declared.Answer.the-variants.{Done, UnknownWord, PastRegisters, BadWidth}
+use Rattle.answers.specs.Answer.{numberOf, valueOf, accepts}
+use Rattle.bits.specs.Lists.{all}
+use Rattle.bits.proofs.Booleans.{and-left, and-right}
+use Rattle.decode.specs.declared.decoded.Named.{Named}
+use Rattle.decode.specs.declared.decoded.Decoded.{Decoded}
+use Rattle.decode.specs.declared.decoded.Decoded.the-variants.{Operation, Move, Load, Store, Unknown}
+use Rattle.tables.specs.Entry.{predicateEntry}
+use Rattle.walk_operands.specs.Mask.{maskBy}
+use Rattle.walk_pausable.specs.Call.{Prepared, refused, ready}
+use Rattle.walk_plans.specs.Operands.{operandsOf, defaultWidth, fitting, checkedOperands, checked}
+use Rattle.walk_plans.specs.Plan.{operationPlan, movePlan, loadPlan, storePlan}
+use Rattle.walk_handler.specs.Prepare.{Plan, operation, move, load, store, served, prepared}
+use Rattle.claims_demands.specs.Premise.{IsMask}
+
+-- the plan of a served word is the one made for it
+pub served-plan : (vl : ℕ) (word : Decoded) (made plan : Plan) → served vl word made ≡ ready plan → plan ≡ made
+unfolding served
+served-plan vl word made plan = by (accepts (checked vl word)) (checked vl word)
+  where
+    by : (t : Bool) (a : Answer) → cond t (ready made) (refused a) ≡ ready plan → plan ≡ made
+    by true a e = cc
+    by false a e = let z : _≡_ {A = ℕ} 0 1 = cc in absurd (omega arith)
+
+module _ (registers again : List ℕ) where
+  abbrev SameAt : Named → Type 0
+  SameAt n = (n .predicate ≡ 0 → ⊥) → getD again (predicateEntry (n .predicate) .mask) 0 ≡ getD registers (predicateEntry (n .predicate) .mask) 0
+
+  mask-same : (n : Named) → SameAt n → maskBy again (n .predicate) ≡ maskBy registers (n .predicate)
+  unfolding maskBy
+  mask-same n same = by (eqb (n .predicate) 0) refl
+    where
+      by : (t : Bool) → eqb (n .predicate) 0 ≡ t → maskBy again (n .predicate) ≡ maskBy registers (n .predicate)
+      by true e = rw e
+      by false e = rw (e, same (eqb-false (n .predicate) 0 e))
+
+  -- where no mask register has changed
+  pub prepared-same :
+      (vl : ℕ) (word : Decoded) → ((r : ℕ) → IsMask word r → getD again r 0 ≡ getD registers r 0) →
+      prepared vl again word ≡ prepared vl registers word
+  unfolding prepared operationPlan movePlan loadPlan storePlan
+  prepared-same vl (Operation w) same = rw (mask-same (w .destination) (λ n. same _ (inl (n, refl))))
+  prepared-same vl (Move w) same =
+      rw (mask-same (w .destination) (λ n. same _ (inl (n, refl))), mask-same (w .source) (λ n. same _ (inr (inl (n, refl)))))
+  prepared-same vl (Load w) same =
+      rw (mask-same (w .destination) (λ n. same _ (inl (n, refl))), mask-same (w .address) (λ n. same _ (inr (inl (n, refl)))))
+  prepared-same vl (Store w) same =
+      rw (mask-same (w .«data») (λ n. same _ (inl (n, refl))), mask-same (w .address) (λ n. same _ (inr (inl (n, refl)))))
+  prepared-same vl Unknown same = refl
+
+-- an answer that refuses a word: it is one of a run's, no pause and no fault, and has no value
+pub record Refusal (a : Answer) : Type 0 where
+  pub most : numberOf a ≤ 6
+  pub ends : numberOf a ≡ 1 → ⊥
+  pub serves : numberOf a ≡ 5 → ⊥
+  pub value : valueOf a ≡ 0
+
+-- tested all at once
+pub refusal :
+    (a : Answer) → leb (numberOf a) 6 && not (eqb (numberOf a) 1) && not (eqb (numberOf a) 5) && eqb (valueOf a) 0 ≡ true →
+    Refusal a
+refusal a h =
+    let served = and-left _ _ h in
+    let ended = and-left _ _ served in
+    record {
+      most = leb-true (numberOf a) 6 (and-left _ _ ended);
+      ends = eqb-false (numberOf a) 1 (not-true _ (and-right (leb (numberOf a) 6) _ ended));
+      serves = eqb-false (numberOf a) 5 (not-true _ (and-right (leb (numberOf a) 6 && not (eqb (numberOf a) 1)) _ served));
+      value = eqb-true (valueOf a) 0 (and-right (leb (numberOf a) 6 && not (eqb (numberOf a) 1) && not (eqb (numberOf a) 5)) _ h);
+    }
+
+served-refusal : (vl : ℕ) (word : Decoded) (made : Plan) (a : Answer) → served vl word made ≡ refused a → Refusal a
+unfolding served accepts checkedOperands
+served-refusal vl word made a = by (all defaultWidth (operandsOf word)) (all (fitting vl) (operandsOf word))
+  where
+    by :
+        (x y : Bool) →
+        let b = cond x (cond y (Done 0) PastRegisters) BadWidth in
+        cond (eqb (numberOf b) 0) (ready made) (refused b) ≡ refused a → Refusal a
+    by true true e = let z : _≡_ {A = ℕ} 0 1 = cc in absurd (omega arith)
+    by true false e = let f : a ≡ PastRegisters = cc in rw f (refusal PastRegisters refl)
+    by false y e = let f : a ≡ BadWidth = cc in rw f (refusal BadWidth refl)
+
+pub prepared-refusal :
+    (vl : ℕ) (registers : List ℕ) (word : Decoded) (a : Answer) → prepared vl registers word ≡ refused a → Refusal a
+unfolding prepared
+prepared-refusal vl registers (Operation w) a = served-refusal vl (Operation w) _ a
+prepared-refusal vl registers (Move w) a = served-refusal vl (Move w) _ a
+prepared-refusal vl registers (Load w) a = served-refusal vl (Load w) _ a
+prepared-refusal vl registers (Store w) a = served-refusal vl (Store w) _ a
+prepared-refusal vl registers Unknown a = λ e. let f : a ≡ UnknownWord = cc in rw f (refusal UnknownWord refl)

@@ -1,0 +1,83 @@
+-- A fault stands at the pair that failed, after the units before it.
+use Prim.Native.Nat.{ℕ}
+use mathlib.Core.Path.{_≡_, refl, sym, _∙_, ap}
+use mathlib.Core.Bool.{true, false}
+use native.Mathlib.Omega.{arith}
+use borrow.Author.Tests.{eqb-true, ne-eqb}
+use Rattle.answers.specs.declared.Answer.{Answer}
+use Rattle.answers.specs.Answer.{numberOf, pauses}
+use Rattle.walk_pausable.specs.Outcome.{outcome}
+use Rattle.walk_pausable.specs.Walk.{walk}
+use Rattle.walk_pausable.specs.Call.{Prepared, refused, ready}
+use Rattle.walk_pausable.specs.Ending.{EndsAfter}
+use Rattle.walk_pausable.proofs.Ending.{walk-ending}
+use Rattle.walk_operations.specs.Context.{context, standing, pausing}
+use Rattle.walk_handler.specs.Prepare.{Plan}
+use Rattle.walk_handler.specs.Unit.{unitOf}
+use Rattle.machine.specs.Run.{System, contextOf, positionOf, prepare, unit, run}
+use Rattle.claims_demands.specs.Run.{standingAt, pairAt, StandsAtFault}
+use Rattle.claims_demands.proofs.Systems.{prepare-refusal}
+use Rattle.claims_demands.proofs.Faults.{unit-fault, Faults, AtPair}
+use Rattle.claims_demands.proofs.Runs.{run-walk, run-refused}
+
+is-paused : (a : Answer) → pauses a ≡ true → numberOf a ≡ 1
+unfolding pauses
+is-paused a e = eqb-true (numberOf a) 1 e
+
+fault-ends : (a : Answer) → Faults a → pauses a ≡ false
+unfolding pauses
+fault-ends a f = ne-eqb (numberOf a) 1 (λ e. omega (arith, e, f))
+
+-- a unit that faults, on the machine and its memory
+fault-at :
+    (plan : Plan) (s : System) → Faults (unit plan s .answer) →
+    AtPair (pairAt plan (positionOf (s .machine))) (contextOf s) (unitOf plan (contextOf s) .state)
+unfolding unit
+fault-at plan s = unit-fault plan (contextOf s)
+
+stands-at :
+    (plan : Plan) (s : System) (i j : ℕ) →
+    unitOf plan (contextOf s) .state
+    ≡ context (s .machine .registers) (s .memory) (standing (positionOf (s .machine)) i j) →
+    unit plan s .state ≡ standingAt s i j
+unfolding unit
+stands-at plan s i j e = rw e
+
+-- by the unit at which the walk ended
+stands-after :
+    (word n : ℕ) (s : System) (plan : Plan) → prepare word s ≡ ready plan →
+    EndsAfter pausing (unit plan) n s (walk pausing (unit plan) n s) → Faults (run word n s .answer) →
+    StandsAtFault word n s
+stands-after word n s plan e ends f =
+    let before = run-walk word (ends .units) s plan e in
+    let last : unit plan (run word (ends .units) s .state) ≡ run word n s = rw (before, run-walk word n s plan e) (ends .last) in
+    let at = fault-at plan (run word (ends .units) s .state) (rw last f) in
+    record {
+      units = ends .units;
+      fewer = ends .fewer;
+      before = is-paused (run word (ends .units) s .answer) (rw before (ends .paused));
+      plan = plan;
+      planned = e;
+      last = last;
+      source = at .source;
+      destination = at .destination;
+      pair = at .found;
+      left =
+          sym (ap (λ o. o .state) last)
+          ∙ stands-at plan (run word (ends .units) s .state) (at .source) (at .destination) (at .stands);
+    }
+
+fault-stands :
+    (word n : ℕ) (s : System) (plan : Plan) → prepare word s ≡ ready plan → Faults (run word n s .answer) →
+    StandsAtFault word n s
+fault-stands word n s plan e f =
+    let ended : pauses (walk pausing (unit plan) n s .answer) ≡ false = rw (← run-walk word n s plan e) (fault-ends (run word n s .answer) f) in
+    stands-after word n s plan e (walk-ending pausing (unit plan) n s ended) f
+
+pub fault-known : (word n : ℕ) (s : System) → Faults (run word n s .answer) → StandsAtFault word n s
+fault-known word n s = by (prepare word s) refl
+  where
+    by : (r : Prepared Answer Plan) → prepare word s ≡ r → Faults (run word n s .answer) → StandsAtFault word n s
+    by (refused a) e f =
+        absurd (prepare-refusal word s a e .serves (rw (run-refused word n s a e) at f))
+    by (ready plan) e f = fault-stands word n s plan e f

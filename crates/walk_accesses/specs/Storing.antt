@@ -1,0 +1,28 @@
+-- Stores: the element at a pair.
+use Prim.Native.Nat.{ℕ}
+use lib.ListN.{getD}
+use Rattle.answers.specs.declared.Answer.{Answer}
+use Rattle.scalar.specs.Width.{bytesOf}
+use Rattle.memory.specs.declared.store.Stored.{Stored}
+use Rattle.memory.specs.declared.store.Stored.the-variants.{Done, Outside}
+use Rattle.memory.specs.Transfer.{storeAnswer, stored}
+use Rattle.walk_operands.specs.Place.{registerAt}
+use Rattle.walk_pausable.specs.Outcome.{Outcome}
+use Rattle.walk_accesses.specs.declared.storing.StorePlan.{StorePlan}
+use Rattle.walk_operations.specs.Context.{Context}
+use Rattle.walk_accesses.specs.Loading.{addressAt}
+use Rattle.walk_transfers.specs.Transfer.{Transferred, moved, outside, transferUnit}
+
+abbrev pub storedTo : StorePlan → Context → ℕ → ℕ → Stored → Transferred
+storedTo p c address value Done = moved (c .registers) (stored (c .memory) address (bytesOf (p .width)) value)
+storedTo p c address value Outside = outside address
+
+-- the destination side is the address
+unfoldable pub storeElement : StorePlan → Context → ℕ → ℕ → Transferred
+storeElement p c i j =
+    let address = addressAt (p .sides .destination .place) (p .offset) (p .width) (c .registers) j in
+    let value = getD (c .registers) (registerAt (p .sides .source .place) i) 0 in
+    storedTo p c address value (storeAnswer (c .memory) address (bytesOf (p .width)))
+
+unfoldable pub storeUnit : StorePlan → Context → Outcome Answer Context
+storeUnit p c = transferUnit (p .sides) 4 (storeElement p) c

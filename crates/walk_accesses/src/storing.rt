@@ -1,0 +1,92 @@
+// A store: its destination side is the address.
+ghost use mathlib.Core.Path.{_≡_};
+ghost use Rattle.memory.specs.Transfer.{storeAnswer, stored};
+ghost use Rattle.scalar.specs.Width.{bytesOf};
+ghost use Rattle.walk_pausable.specs.Walk.{walk};
+ghost use Rattle.walk_operations.specs.Context.{context, left, pausing};
+ghost use Rattle.walk_transfers.specs.SidesReady.{SidesReady, Within};
+ghost use Rattle.walk_accesses.specs.Storing.{storeUnit};
+use crate::loading::address_at;
+use answers::Answer;
+use memory::store::Stored;
+use memory::store::store;
+use walk_pairs::Pair;
+use scalar::width::Width;
+use walk_transfers::sides::Sides;
+use walk_operations::position::Position;
+use walk_operations::position::Ran;
+
+pub struct StorePlan {
+    pub sides: Sides,
+    pub offset: u64,
+    pub width: Width,
+}
+
+// A store with the width told apart once: each case is compiled for its own width.
+fn put(memory: &mut [u8], address: u64, width: Width, value: u64) -> Stored
+    ensures answer { λ r. ⌜ r ≡ storeAnswer (now (memory .entry)) address (bytesOf width) ⌝ }
+    ensures bytes { λ _. ⌜ now (memory .exit) ≡ stored (now (memory .entry)) address (bytesOf width) value ⌝ }
+{
+    match width {
+        Width::Byte => store(memory, address, Width::Byte, value),
+        Width::Half => store(memory, address, Width::Half, value),
+        Width::Word => store(memory, address, Width::Word, value),
+        Width::Double => store(memory, address, Width::Double, value),
+    }
+}
+
+impl StorePlan {
+    // One element.
+    pub fn unit(self, position: Position, registers: &[u64; 128], memory: &mut [u8]) -> Ran
+        requires { ⌜ SidesReady (self .sides) × Within (self .sides .vl) position ⌝ }
+        ensures { λ r. ⌜
+            (let start = context (now (registers .entry)) (now (memory .entry)) position in
+            left r (now (registers .entry)) (now (memory .exit)) ≡ storeUnit self start)
+            ⌝ }
+    {
+        let sides = self.sides;
+        match sides.find(position) {
+            Pair::End => position.ended(4),
+            Pair::Found(i, j) => {
+                let width = self.width;
+                let address = address_at(sides.destination.place, self.offset, width, registers, j);
+                let value = registers[sides.source.place.at(i)];
+                match put(memory, address, width, value) {
+                    Stored::Done => sides.after(position, 4, i, j),
+                    Stored::Outside => position.faulted(address, i, j),
+                }
+            }
+        }
+    }
+
+    // At most as many elements as allowed.
+    pub fn walk(
+        self,
+        position: Position,
+        allowance: u16,
+        registers: &[u64; 128],
+        memory: &mut [u8],
+    ) -> Ran
+        requires { ⌜ SidesReady (self .sides) × Within (self .sides .vl) position ⌝ }
+        ensures { λ r. ⌜
+            (let start = context (now (registers .entry)) (now (memory .entry)) position in
+            left r (now (registers .entry)) (now (memory .exit)) ≡ walk pausing (storeUnit self) allowance start)
+            ⌝ }
+    {
+        let mut now = position;
+        let mut left = allowance;
+        while 0 < left {
+            let ran = self.unit(now, registers, memory);
+            let answer = ran.answer;
+            if !answer.pauses() {
+                return ran;
+            }
+            now = ran.position;
+            left -= 1;
+        }
+        Ran {
+            answer: Answer::Paused,
+            position: now,
+        }
+    }
+}
