@@ -1,5 +1,4 @@
 -- Copying a machine out and back gives the machine that was copied, whatever the order.
-use Prim.Native.Nat.{ℕ, zero, suc, _+_, _<_}
 use mathlib.Core.Path.{_≡_, refl, _∙_, ap}
 use mathlib.Core.Logic.{inl, inr}
 use mathlib.Core.Bool.{true}
@@ -46,4 +45,5 @@ copied saved s (p ∷ ps) only m z h =
 pub copy-kept : CopyKept
 copy-kept ps whole saved host f t s h =
     let c = copied saved s ps (whole .only) host t h in
-    c .carries ∙ ap (λ m. done m 0) (same-machine saved (c .last) f (c .sized) (λ p l. c .among p (whole .every p l)))
+    c .carries
+    ∙ ap (λ m. done m 0) (same-machine saved (c .last) f (c .sized) (λ p l. c .among p (whole .contains p l)))

@@ -8,7 +8,8 @@ use lib.Dec.{eqb}
 use native.Mathlib.Omega.{arith}
 use borrow.Author.Tests.{eqb-true, eqb-false}
 use Rattle.claims_calls.specs.Lists.{Among}
-use Rattle.claims_calls.specs.Copy.{Part, registerEntry, predicateEntry, register, pc, stateWord, IsPart, eachBelow, everyRegister, everyEntry, registersFirst, RegistersFirstIsWhole}
+use Rattle.claims_calls.specs.Copy.{Part, registerEntry, predicateEntry, register, pc, stateWord, IsPart}
+use Rattle.claims_calls.specs.Copy.{eachBelow, everyRegister, everyEntry, registersFirst, RegistersFirstIsWhole}
 use Rattle.claims_calls.proofs.Parts.{by-part}
 
 module _ (p : Part) where
@@ -56,7 +57,7 @@ pub registers-first-is-whole : RegistersFirstIsWhole
 registers-first-is-whole =
     let arrays = everyRegister ++ everyEntry in
     record {
-      every =
+      contains =
           by-part (λ p. IsPart p → Among p registersFirst)
           (λ i l.
           let p = registerEntry i in

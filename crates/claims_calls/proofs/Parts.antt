@@ -14,7 +14,8 @@ use Rattle.machine.specs.Update.{roomOf, tablesOf, machineWith}
 use Rattle.claims_calls.specs.Copy.{Part, registerEntry, predicateEntry, register, pc, stateWord, IsPart}
 
 pub by-part :
-    (Q : Part → Type 0) → ((i : ℕ) → Q (registerEntry i)) → ((i : ℕ) → Q (predicateEntry i)) → ((i : ℕ) → Q (register i)) →
+    (Q : Part → Type 0) → ((i : ℕ) → Q (registerEntry i)) → ((i : ℕ) → Q (predicateEntry i)) →
+    ((i : ℕ) → Q (register i)) →
     Q pc → Q stateWord → (p : Part) → Q p
 by-part Q a b c d e (registerEntry i) = a i
 by-part Q a b c d e (predicateEntry i) = b i
@@ -32,7 +33,8 @@ Agree saved stateWord m = m .state ≡ saved .state
 
 -- one more element taken from a list loses none that was taken before
 pub taken-over :
-    (from l : List ℕ) (i j : ℕ) → i < length l → getD l j 0 ≡ getD from j 0 → getD (set l i (getD from i 0)) j 0 ≡ getD from j 0
+    (from l : List ℕ) (i j : ℕ) → i < length l → getD l j 0 ≡ getD from j 0 →
+    getD (set l i (getD from i 0)) j 0 ≡ getD from j 0
 taken-over from l i j h e = by (eqb j i) refl
   where
     by : (t : Bool) → eqb j i ≡ t → getD (set l i (getD from i 0)) j 0 ≡ getD from j 0
@@ -47,8 +49,10 @@ same-machine saved m f z all =
     let same : machineWith (roomOf m) (tablesOf m) ≡ saved =
     rw (
       same-list (m .registers) (saved .registers) 128 (z .registers) (f .registers) (λ i. all (register i)),
-      same-list (m .«register_table») (saved .«register_table») 16 (z .register-table) (f .register-table) (λ i. all (registerEntry i)),
-      same-list (m .«predicate_table») (saved .«predicate_table») 16 (z .predicate-table) (f .predicate-table) (λ i. all (predicateEntry i)),
+      same-list (m .«register_table») (saved .«register_table») 16 (z .register-table) (f .register-table)
+          (λ i. all (registerEntry i)),
+      same-list (m .«predicate_table») (saved .«predicate_table») 16 (z .predicate-table) (f .predicate-table)
+          (λ i. all (predicateEntry i)),
       all pc tt,
       all stateWord tt,
     ) in

@@ -1,5 +1,5 @@
 -- What holds of every reading call.
-use mathlib.Core.Path.{_≡_, refl, sym}
+use mathlib.Core.Path.{refl}
 use mathlib.Core.Logic.{inl, inr}
 use mathlib.Core.Bool.{Bool, true, true≢false}
 use Prim.Native.Nat.{ℕ}
@@ -9,14 +9,15 @@ use Rattle.answers.specs.Answer.{accepts}
 use Rattle.machine.specs.declared.Machine.{Machine}
 use Rattle.machine.specs.Calls.{done, guarded}
 use Rattle.machine.specs.Reading.{readRegisterEntry, readPredicateEntry, readRegister}
-use Rattle.claims_calls.specs.Reading.{Reading, vl, mvl, cfg, registerEntry, predicateEntry, register, pc, stateWord, read}
+use Rattle.claims_calls.specs.Reading.{Reading, vl, mvl, cfg, registerEntry, predicateEntry, register, pc}
+use Rattle.claims_calls.specs.Reading.{stateWord, read}
 use Rattle.claims_calls.specs.Calls.{ReadingSound}
-use Rattle.claims_calls.proofs.Guards.{by-guard}
+use Rattle.claims_calls.proofs.Guards.{by-value}
 
 one-sound : (m : Machine) (exists : Bool) (value : ℕ) → ReadingSound m (guarded m exists (Done 0) (done m value))
 unfolding accepts
 one-sound m exists value =
-    by-guard (ReadingSound m) exists true
+    by-value (ReadingSound m) exists true
     (record { answer = inr (inl refl); machine = refl; refused = λ r. refl })
     (λ p. record { answer = inr (inr (inl refl)); machine = refl; refused = λ r. refl })
     (λ g. absurd (true≢false g))

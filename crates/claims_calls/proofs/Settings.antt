@@ -20,12 +20,14 @@ use Rattle.answers.specs.Answer.{numberOf, valueOf, accepts}
 use Rattle.answers.specs.Verdict.{valid}
 use Rattle.machine.specs.Calls.{refuse, done, guarded}
 use Rattle.machine.specs.Shape.{inShape}
-use Rattle.machine.specs.Setting.{setVl, setVlImmediate, setMvl, setCfg, setRegisterEntry, setPredicateEntry, setRegister, setPc, setStateWord}
+use Rattle.machine.specs.Setting.{setVl, setVlImmediate, setMvl, setCfg, setRegisterEntry, setPredicateEntry}
+use Rattle.machine.specs.Setting.{setRegister, setPc, setStateWord}
 use Rattle.machine.proofs.Shapes.{parts, in-shape}
-use Rattle.claims_calls.specs.Setting.{Setting, vl, vlImmediate, mvl, cfg, registerEntry, predicateEntry, register, pc, stateWord, set, returned}
+use Rattle.claims_calls.specs.Setting.{Setting, vl, vlImmediate, mvl, cfg, registerEntry, predicateEntry}
+use Rattle.claims_calls.specs.Setting.{register, pc, stateWord, set, returned}
 use Rattle.claims_calls.specs.Lists.{Among}
 use Rattle.claims_calls.specs.Calls.{settingAnswers, SettingSound}
-use Rattle.claims_calls.proofs.Guards.{by-guard}
+use Rattle.claims_calls.proofs.Guards.{by-value}
 
 -- a machine in shape stays so where each of the three parts does
 pub kept :
@@ -52,7 +54,7 @@ if-guarded :
     (inShape m ≡ true → taken ≡ true → SettingSound m s reply) → SettingSound m s (guarded m exists (valid taken) reply)
 unfolding accepts
 if-guarded {m} {s} exists taken =
-    by-guard (SettingSound m s) exists taken (refuses (inr (inl refl)) refl refl)
+    by-value (SettingSound m s) exists taken (refuses (inr (inl refl)) refl refl)
     (λ p. refuses (inr (inr (inr (inl refl)))) refl refl) (λ g. refuses (inr (inr (inl refl))) refl refl)
   where
     refuses :

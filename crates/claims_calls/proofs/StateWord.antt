@@ -3,9 +3,9 @@ use Prim.Native.Nat.{ℕ}
 use mathlib.Core.Path.{_≡_, refl, sym}
 use mathlib.Core.Bool.{true, true≢false}
 use native.Mathlib.Omega.{arith}
-use Rattle.state_word.specs.State.{fields, wordOf, cut, goodWord}
+use Rattle.state_word.specs.State.{ofWord, wordOf, cut, goodWord}
 use Rattle.state_word.proofs.States.{word-kept}
-use Rattle.state_word.proofs.Words.{fields-back, cut-same, good-back, mvl-back, vl-back, rest-back, above-back}
+use Rattle.state_word.proofs.Words.{of-word-back, cut-same, good-back, mvl-back, vl-back, rest-back, above-back}
 use Rattle.machine.specs.declared.Machine.{Machine}
 use Rattle.answers.specs.Answer.{accepts}
 use Rattle.answers.specs.Verdict.{verdict}
@@ -17,7 +17,7 @@ use Rattle.machine.specs.Reading.{readStateWord}
 use Rattle.machine.proofs.Shapes.{parts}
 use Rattle.claims_calls.specs.Setting.{Accepted}
 use Rattle.claims_calls.specs.StateWord.{StateWordKept}
-use Rattle.claims_calls.proofs.Guards.{by-guard}
+use Rattle.claims_calls.proofs.Guards.{by-value}
 use Rattle.claims_calls.proofs.Settings.{kept}
 
 pub read-is : (m : Machine) → inShape m ≡ true → readStateWord m ≡ done m (wordOf (m .state))
@@ -26,7 +26,7 @@ read-is m h = rw h
 
 pub set-is :
     (m : Machine) (word : ℕ) → inShape m ≡ true → goodWord word ≡ true →
-    setStateWord m word ≡ done (withState m (cut (fields word))) 0
+    setStateWord m word ≡ done (withState m (cut (ofWord word))) 0
 unfolding setStateWord accepts verdict
 set-is m word h g = rw (h, g)
 
@@ -36,14 +36,15 @@ pub carried-word :
     setStateWord host (wordOf (saved .state)) ≡ done (withState host (saved .state)) 0
 carried-word saved host h o =
     let k = parts saved h .state in
-    rw (set-is host (wordOf (saved .state)) o (good-back (saved .state) k), fields-back (saved .state) k, cut-same (saved .state) k)
+    let w = saved .state in rw (set-is host (wordOf w) o (good-back w k), of-word-back w k, cut-same w k)
 
 -- an accepted call passed its tests
 passed : (m : Machine) (word : ℕ) → Accepted (setStateWord m word) → (inShape m ≡ true) × (goodWord word ≡ true)
 unfolding setStateWord accepts
 passed m word =
-    by-guard (λ reply. Accepted reply → (inShape m ≡ true) × (goodWord word ≡ true)) true (goodWord word)
-    (λ a. absurd (true≢false (sym a))) (λ p. absurd (true≢false p)) (λ g a. absurd (true≢false (sym a))) (λ h g a. (h, g))
+    by-value (λ reply. Accepted reply → (inShape m ≡ true) × (goodWord word ≡ true)) true (goodWord word)
+    (λ a. absurd (true≢false (sym a))) (λ p. absurd (true≢false p)) (λ g a. absurd (true≢false (sym a)))
+    (λ h g a. (h, g))
 
 pub state-word-kept : StateWordKept
 state-word-kept = record {
@@ -51,13 +52,13 @@ state-word-kept = record {
   read-back = λ m word a.
       let t = passed m word a in
       let g = t .1 in
-      let after = cut (fields word) in
+      let after = cut (ofWord word) in
       let e = set-is m word (t .0) g in
       let k = word-kept word g in
       rw (e, read-is (withState m after) (kept m _ (t .0) (λ s. k) (λ z. z) (λ c. c))) (record {
         answered = unfold accepts in refl;
-        mvl = unfold fields in omega (arith, mvl-back after k);
-        vl = unfold fields in omega (arith, vl-back after k);
+        mvl = unfold ofWord in omega (arith, mvl-back after k);
+        vl = unfold ofWord in omega (arith, vl-back after k);
         rest = rest-back word g;
         above = omega (arith, above-back after k);
       });

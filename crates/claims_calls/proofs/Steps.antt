@@ -44,6 +44,16 @@ module _ (saved m : Machine) (s : inShape saved ≡ true) (h : inShape m ≡ tru
   abbrev Kept : Machine → Part → Type 0
   Kept next q = Agree saved q m → Agree saved q next
 
+  resized :
+      (next : Machine) → length (next .registers) ≡ length (m .registers) →
+      length (next .«register_table») ≡ length (m .«register_table») →
+      length (next .«predicate_table») ≡ length (m .«predicate_table») → Sized next
+  resized next a b c = record {
+    registers = a ∙ z .registers;
+    register-table = b ∙ z .register-table;
+    predicate-table = c ∙ z .predicate-table;
+  }
+
   step-register-entry : (i : ℕ) → i < 16 → Step saved (registerEntry i) m
   unfolding readRegisterEntry setRegisterEntry accepts verdict
   step-register-entry i l =
@@ -54,11 +64,7 @@ module _ (saved m : Machine) (s : inShape saved ≡ true) (h : inShape m ≡ tru
       record {
         next = next;
         carries = rw (s, h, lt-ltb i 16 l);
-        sized = record {
-          registers = z .registers;
-          register-table = length-set to i (getD from i 0) ∙ z .register-table;
-          predicate-table = z .predicate-table;
-        };
+        sized = resized next refl (length-set to i (getD from i 0)) refl;
         shaped = kept m next h (λ k. k) (λ o. o) (λ t. t);
         there = getD-set-same to i (getD from i 0) 0 below;
         others = by-part (Kept next) (λ j. taken-over from to i j below) (λ j e. e) (λ j e. e) (λ e. e) (λ e. e);
@@ -75,11 +81,7 @@ module _ (saved m : Machine) (s : inShape saved ≡ true) (h : inShape m ≡ tru
       record {
         next = next;
         carries = rw (s, h, lt-ltb i 16 l, clear);
-        sized = record {
-          registers = z .registers;
-          register-table = z .register-table;
-          predicate-table = length-set to i (getD from i 0) ∙ z .predicate-table;
-        };
+        sized = resized next refl refl (length-set to i (getD from i 0));
         shaped = kept m next h (λ k. k) (λ o. o) (clear-set to i (getD from i 0) clear 16);
         there = getD-set-same to i (getD from i 0) 0 below;
         others = by-part (Kept next) (λ j e. e) (λ j. taken-over from to i j below) (λ j e. e) (λ e. e) (λ e. e);
@@ -97,11 +99,7 @@ module _ (saved m : Machine) (s : inShape saved ≡ true) (h : inShape m ≡ tru
       record {
         next = next;
         carries = rw (s, h, lt-ltb i 128 l, same);
-        sized = record {
-          registers = length-set to i (getD from i 0) ∙ z .registers;
-          register-table = z .register-table;
-          predicate-table = z .predicate-table;
-        };
+        sized = resized next (length-set to i (getD from i 0)) refl refl;
         shaped = kept m next h (λ k. k) (λ o. rw (← same) (zero-kept to i (getD from i 0) o)) (λ t. t);
         there = getD-set-same to i (getD from i 0) 0 below;
         others = by-part (Kept next) (λ j e. e) (λ j e. e) (λ j. taken-over from to i j below) (λ e. e) (λ e. e);
@@ -112,7 +110,7 @@ module _ (saved m : Machine) (s : inShape saved ≡ true) (h : inShape m ≡ tru
   step-pc = record {
     next = withPc m (saved .pc);
     carries = rw (s, h);
-    sized = record { registers = z .registers; register-table = z .register-table; predicate-table = z .predicate-table };
+    sized = resized _ refl refl refl;
     shaped = kept m _ h (λ k. k) (λ o. o) (λ t. t);
     there = refl;
     others = by-part (Kept (withPc m (saved .pc))) (λ j e. e) (λ j e. e) (λ j e. e) (λ e. refl) (λ e. e);
@@ -123,7 +121,7 @@ module _ (saved m : Machine) (s : inShape saved ≡ true) (h : inShape m ≡ tru
   step-state-word = record {
     next = withState m (saved .state);
     carries = rw (read-is saved s) (carried-word saved m s h);
-    sized = record { registers = z .registers; register-table = z .register-table; predicate-table = z .predicate-table };
+    sized = resized _ refl refl refl;
     shaped = kept m _ h (λ k. parts saved s .state) (λ o. o) (λ t. t);
     there = refl;
     others = by-part (Kept (withState m (saved .state))) (λ j e. e) (λ j e. e) (λ j e. e) (λ e. e) (λ e. refl);

@@ -60,7 +60,7 @@ IsPart stateWord = Unit
 
 -- A list that names every part, and nothing else; the order is free, and so are repeats.
 pub record Whole (ps : List Part) : Type 0 where
-  pub every : (p : Part) → IsPart p → Among p ps
+  pub contains : (p : Part) → IsPart p → Among p ps
   pub only : (p : Part) → Among p ps → IsPart p
 
 -- For any two machines in shape the copy gives the first, every call answering 0.
@@ -74,8 +74,8 @@ unfoldable pub eachBelow : ℕ → (ℕ → List Part) → List Part
 eachBelow zero parts = []
 eachBelow (suc n) parts = eachBelow n parts ++ parts n
 
--- One such list, in the order of examples/slices.c: the registers, the entries of both tables side by side, the program counter
--- and the state word.
+-- One such list, in the order of examples/slices.c: the registers, the entries of both tables side by side, the program
+-- counter and the state word.
 abbrev pub everyRegister : List Part
 everyRegister = eachBelow 128 (λ i. register i ∷ [])
 

@@ -12,7 +12,8 @@ use Rattle.machine.specs.Setting.{setStateWord}
 use Rattle.machine.specs.Reading.{readStateWord}
 use Rattle.claims_calls.specs.Setting.{Accepted}
 
--- A word that is read back has all 32 bits of the word that was set, but for VL, which is cut to MVL, and no bit above them.
+-- A word that is read back has all 32 bits of the word that was set, but for VL, which is cut to MVL, and no bit above
+-- them.
 pub record ReadBack (word : ℕ) (reply : Reply) : Type 0 where
   pub answered : Accepted reply
   pub mvl : bits 5 0 (valueOf (reply .answer)) ≡ bits 5 0 word

@@ -1,10 +1,9 @@
 -- A unit that pauses goes up by at least one position.
 use Prim.Native.Nat.{ℕ, _+_, _<_, _≤_}
-use mathlib.Core.Path.{_≡_, refl, sym, _∙_}
-use mathlib.Core.Bool.{Bool, true, false, cond, _||_, not, true≢false}
+use mathlib.Core.Path.{_≡_, refl, sym}
+use mathlib.Core.Bool.{Bool, true, false, cond, _||_, true≢false}
 use native.Mathlib.Omega.{arith}
 use lib.Dec.{ltb}
-use Rattle.answers.specs.declared.Answer.{Answer}
 use Rattle.answers.specs.declared.Answer.the-variants.{Done, Fault}
 use Rattle.answers.specs.Answer.{pauses}
 use Rattle.walk_operands.specs.Mask.{isOn}
@@ -13,14 +12,15 @@ use Rattle.walk_pairs.specs.declared.Pair.{Pair}
 use Rattle.walk_pairs.specs.declared.Pair.the-variants.{Found, End}
 use Rattle.walk_pairs.specs.Side.{start, next, past}
 use Rattle.walk_pairs.proofs.Found.{found-rest, rests-from}
-use Rattle.walk_pausable.specs.Outcome.{Outcome, Paused}
+use Rattle.walk_pausable.specs.Outcome.{Paused}
 use Rattle.walk_operations.specs.declared.position.Position.{Position}
 use Rattle.walk_operations.specs.declared.position.Ran.{Ran}
 use Rattle.walk_operations.specs.declared.operation.OperationPlan.{OperationPlan}
 use Rattle.walk_transfers.specs.declared.sides.Sides.{Sides}
-use Rattle.walk_operations.specs.Context.{Context, left, ended, onward, pausing}
+use Rattle.walk_operations.specs.Context.{Context, pausing}
 use Rattle.walk_operations.specs.Operation.{goOn, afterOn, positionAfter, operationUnit}
-use Rattle.walk_transfers.specs.Transfer.{Transferred, moved, outside, pairOf, afterPair, settled, atPair, transferUnit}
+use Rattle.walk_transfers.specs.Transfer.{Transferred, moved, outside, pairOf, afterPair, afterTransfer, atPair}
+use Rattle.walk_transfers.specs.Transfer.{transferUnit}
 use Rattle.bits.proofs.Booleans.{by-cond, or-false}
 
 -- an answer is a pause only where the position has gone up, by some count of positions
@@ -94,17 +94,19 @@ pub transfer-rises :
 unfolding transferUnit
 transfer-rises s goes bytes transfer c = by (pairOf s (c .position)) refl
   where
-    settles :
-        (i j : ℕ) → start (s .source) (c .position .source) ≤ i → start (s .destination) (c .position .destination) ≤ j →
-        (t : Transferred) → Paused pausing (settled s bytes c i j t) →
-        counted s (c .position) < counted s (settled s bytes c i j t .state .position)
-    settles i j h k (moved after memory) = unfold settled in pair-rises s goes bytes (c .position) i j h k
-    settles i j h k (outside address) = unfold settled in λ q. absurd (fault-ends address q)
+    by-transfer :
+        (i j : ℕ) → start (s .source) (c .position .source) ≤ i →
+        start (s .destination) (c .position .destination) ≤ j →
+        (t : Transferred) → Paused pausing (afterTransfer s bytes c i j t) →
+        counted s (c .position) < counted s (afterTransfer s bytes c i j t .state .position)
+    by-transfer i j h k (moved after memory) = unfold afterTransfer in pair-rises s goes bytes (c .position) i j h k
+    by-transfer i j h k (outside address) = unfold afterTransfer in λ q. absurd (fault-ends address q)
 
     by :
         (q : Pair) → pairOf s (c .position) ≡ q → Paused pausing (atPair s bytes (transfer c) c q) →
         counted s (c .position) < counted s (atPair s bytes (transfer c) c q .state .position)
     by End e = unfold atPair in λ q. absurd (done-ends 0 q)
     by (Found i j) e = unfold atPair pairOf in
-        let r = found-rest (s .source) (s .destination) (s .vl) (start (s .source) (c .position .source)) (start (s .destination) (c .position .destination)) i j e in
-        settles i j (rests-from (r .source)) (rests-from (r .destination)) (transfer c i j)
+        let r = found-rest (s .source) (s .destination) (s .vl) (start (s .source) (c .position .source))
+        (start (s .destination) (c .position .destination)) i j e in
+        by-transfer i j (rests-from (r .source)) (rests-from (r .destination)) (transfer c i j)

@@ -1,7 +1,7 @@
 -- The VL clause of demand 3: VL units are enough.
-use Prim.Native.Nat.{ℕ, _-_, _<_, _≤_}
+use Prim.Native.Nat.{ℕ, _-_, _<_}
 use mathlib.Core.Path.{_≡_, refl, sym, _∙_}
-use mathlib.Core.Bool.{Bool, true, false, cond, not, _&&_, true≢false}
+use mathlib.Core.Bool.{true, true≢false}
 use mathlib.Core.List.{List}
 use native.Mathlib.Omega.{arith}
 use borrow.Author.Tests.{eq-eqb, not-false}
@@ -9,12 +9,11 @@ use Rattle.answers.specs.declared.Answer.{Answer}
 use Rattle.answers.specs.Answer.{numberOf, pauses}
 use Rattle.decode.specs.declared.decoded.Decoded.{Decoded}
 use Rattle.decode.specs.declared.decoded.Decoded.the-variants.{Operation, Move, Load, Store, Unknown}
-use Rattle.walk_pausable.specs.Outcome.{Paused, Ended}
+use Rattle.walk_pausable.specs.Outcome.{Paused}
 use Rattle.walk_pausable.specs.Call.{ready}
 use Rattle.walk_pausable.specs.Bound.{Bounded}
 use Rattle.walk_pausable.proofs.Bound.{call-bound}
 use Rattle.walk_operations.specs.declared.position.Position.{Position}
-use Rattle.walk_transfers.specs.declared.sides.Sides.{Sides}
 use Rattle.walk_operations.specs.Context.{Context, pausing}
 use Rattle.walk_transfers.specs.SidesReady.{Within}
 use Rattle.walk_transfers.specs.Moving.{moveUnit, moveElement}
@@ -23,13 +22,13 @@ use Rattle.walk_accesses.specs.Storing.{storeUnit, storeElement}
 use Rattle.walk_plans.specs.Plan.{operationPlan, movePlan, loadPlan, storePlan}
 use Rattle.walk_handler.specs.Prepare.{Plan, operation, move, load, store, prepared}
 use Rattle.walk_handler.specs.Unit.{unitOf}
-use Rattle.machine.proofs.Handled.{standing-within}
-use Rattle.machine.specs.Run.{System, contextOf, positionOf, wordOn, prepare, unit, run}
+use Rattle.machine.proofs.Handled.{position-within}
+use Rattle.machine.specs.Run.{System, contextOf, positionOf, wordOn, unit, run}
 use Rattle.claims_demands.specs.Cuts.{NeverPauses}
 use Rattle.bits.proofs.Booleans.{by-cond}
 use Rattle.claims_demands.proofs.Preparing.{served-plan}
 use Rattle.claims_demands.proofs.Systems.{PlanOf, plan-of, plan-kept}
-use Rattle.claims_demands.proofs.Advance.{counted, Goes, operation-rises, transfer-rises}
+use Rattle.claims_demands.proofs.Advance.{counted, operation-rises, transfer-rises}
 use Rattle.claims_demands.proofs.Cuts.{no-refusal-pauses}
 
 -- the position that a plan counts by
@@ -42,8 +41,10 @@ countedBy (store p) position = counted (p .sides) position
 counted-within : (vl : ℕ) (position : Position) → Within vl position → (plan : Plan) → countedBy plan position < vl
 counted-within vl position w (operation p) = w .destination
 counted-within vl position w (move s) = by-cond (λ x. x < vl) (s .source .walks) (λ e. w .source) (λ e. w .destination)
-counted-within vl position w (load p) = by-cond (λ x. x < vl) (p .sides .source .walks) (λ e. w .source) (λ e. w .destination)
-counted-within vl position w (store p) = by-cond (λ x. x < vl) (p .sides .source .walks) (λ e. w .source) (λ e. w .destination)
+counted-within vl position w (load p) =
+    by-cond (λ x. x < vl) (p .sides .source .walks) (λ e. w .source) (λ e. w .destination)
+counted-within vl position w (store p) =
+    by-cond (λ x. x < vl) (p .sides .source .walks) (λ e. w .source) (λ e. w .destination)
 
 module _ (vl : ℕ) (registers : List ℕ) (c : Context) where
   unit-rises :
@@ -76,13 +77,16 @@ measure plan s = s .machine .state .vl - countedBy plan (positionOf (s .machine)
 
 module _ (word : ℕ) (plan : Plan) where
   below : (s : System) → PlanOf word plan s → countedBy plan (positionOf (s .machine)) < s .machine .state .vl
-  below s k = counted-within (s .machine .state .vl) (positionOf (s .machine)) (standing-within (s .machine) (k .shaped)) plan
+  below s k =
+      counted-within (s .machine .state .vl) (positionOf (s .machine)) (position-within (s .machine) (k .shaped)) plan
 
-  falls : (s : System) → PlanOf word plan s → Paused pausing (unit plan s) → measure plan (unit plan s .state) < measure plan s
+  falls :
+      (s : System) → PlanOf word plan s → Paused pausing (unit plan s) →
+      measure plan (unit plan s .state) < measure plan s
   unfolding unit
   falls s k q =
-      let up = unit-rises (s .machine .state .vl) (k .registers) (contextOf s) (wordOn word (s .machine)) plan (k .planned) q in
-      omega (arith, up, below s k)
+      let on = wordOn word (s .machine) in
+      omega (arith, unit-rises (s .machine .state .vl) (k .registers) (contextOf s) on plan (k .planned) q, below s k)
 
   bounded : Bounded pausing (unit plan) (PlanOf word plan) (measure plan)
   bounded = record {
@@ -98,5 +102,6 @@ is-pause a e = eq-eqb (numberOf a) 1 e
 pub never-pauses : NeverPauses
 unfolding run
 never-pauses word s n enough one =
-    let ended = call-bound (no-refusal-pauses word) (bounded word) n s (λ plan e. (plan-of word s plan e, omega (arith, enough))) in
-    true≢false (sym (is-pause _ one) ∙ ended)
+    true≢false
+    (sym (is-pause _ one)
+    ∙ call-bound (no-refusal-pauses word) (bounded word) n s (λ plan e. (plan-of word s plan e, omega (arith, enough))))

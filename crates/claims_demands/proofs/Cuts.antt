@@ -1,28 +1,24 @@
 -- Demand 3: a cut makes no difference.
 use Prim.Native.Nat.{ℕ}
-use mathlib.Core.Path.{_≡_, refl, sym, _∙_, ap}
+use mathlib.Core.Path.{_≡_, refl, _∙_}
 use mathlib.Core.Bool.{true, false}
-use mathlib.Core.List.{List}
 use lib.ListN.{getD}
 use Rattle.answers.specs.declared.Answer.{Answer}
 use borrow.Author.Tests.{ne-eqb}
 use Rattle.answers.specs.Answer.{numberOf, pauses}
-use Rattle.walk_pausable.specs.Outcome.{Outcome}
-use Rattle.walk_pausable.specs.Call.{ready, Further, NoRefusalPauses}
+use Rattle.walk_pausable.specs.Call.{ready, NoRefusalPauses}
 use Rattle.walk_pausable.specs.Cut.{ReadyFor, Cuttable}
 use Rattle.walk_pausable.proofs.Cut.{cut}
 use Rattle.walk_operations.specs.Context.{Context, pausing}
-use Rattle.walk_handler.specs.Prepare.{Plan, prepared}
+use Rattle.walk_handler.specs.Prepare.{Plan}
 use Rattle.walk_handler.specs.Unit.{unitOf}
-use Rattle.machine.specs.declared.Machine.{Machine}
-use Rattle.machine.specs.Calls.{done}
 use Rattle.machine.specs.Shape.{inShape, Sized}
 use Rattle.machine.specs.Run.{System, contextOf, withContext, wordOn, prepare, unit, run}
 use Rattle.claims_demands.specs.Premise.{IsMask, Apart}
 use Rattle.claims_demands.specs.Cuts.{Between, nothing, copied, changed, CutKept}
 use Rattle.claims_calls.proofs.Copy.{copy-kept}
 use Rattle.claims_demands.proofs.Preparing.{Refusal, prepared-same}
-use Rattle.claims_demands.proofs.Systems.{plan-of, plan-kept, sound-on, prepare-refusal, PlanOf}
+use Rattle.claims_demands.proofs.Systems.{plan-of, plan-kept, sound-on, prepare-refusal}
 
 refusal-ends : (a : Answer) → Refusal a → pauses a ≡ false
 unfolding pauses
@@ -70,7 +66,8 @@ module _ (word : ℕ) (plan : Plan) where
       )
 
 -- the copy gives back a machine in shape
-copy-same : (word : ℕ) (b : Between) (plan : Plan) (s : System) → ReadyFor (prepare word) (Keep word) plan s → changed b s ≡ s
+copy-same :
+    (word : ℕ) (b : Between) (plan : Plan) (s : System) → ReadyFor (prepare word) (Keep word) plan s → changed b s ≡ s
 copy-same word nothing plan s r = refl
 copy-same word (copied ps whole host sized shaped) plan s (e, k) =
     rw (copy-kept ps whole (s .machine) host (k .sized) sized (plan-of word s plan e .shaped) shaped)

@@ -1,5 +1,6 @@
 pub mod RegistersKept
 pub mod Units
+pub mod TransferUnits
 pub mod Preparing
 pub mod PlanSound
 pub mod Systems
@@ -11,6 +12,6 @@ pub mod Runs
 pub mod Stands
 pub mod Run
 pub mod Masks
-pub mod Named
+pub mod Resolved
 pub mod Tested
 pub mod Refusals

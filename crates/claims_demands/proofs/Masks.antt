@@ -1,13 +1,13 @@
 -- A position is on when that bit of the mask register differs from the invert bit.
-use Prim.Native.Nat.{ℕ, zero, suc, _+_, _-_, _*_, _/_, _%_, _^_, _<_}
-use mathlib.Core.Path.{_≡_, refl, sym, _∙_}
+use Prim.Native.Nat.{ℕ, zero, suc, _+_, _-_, _/_, _%_, _^_, _<_}
+use mathlib.Core.Path.{_≡_, refl, sym}
 use mathlib.Core.Bool.{Bool, true, false, not}
 use native.Mathlib.Nat.{two-pow-succ, pow-succ', pow-zero, div-one, div-div-eq-div-mul}
 use native.Mathlib.Omega.{arith}
 use borrow.Author.Tests.{eq-eqb, ne-eqb, eqb-true, eqb-false}
 use lib.Dec.{eqb}
 use Rattle.walk_operands.specs.Mask.{onBits, isOn}
-use Rattle.claims_demands.specs.Masks.{differ, OnWhereTheyDiffer}
+use Rattle.claims_demands.specs.Masks.{OnWhereTheyDiffer}
 
 halved : (x i : ℕ) → x / 2 ^ suc i ≡ x / 2 / 2 ^ i
 halved x i = rw (pow-succ' 2 i) (sym (div-div-eq-div-mul x 2 (2 ^ i)))

@@ -21,7 +21,7 @@ use Rattle.walk_transfers.specs.declared.sides.Sides.{Sides}
 use Rattle.walk_operations.specs.Context.{Context}
 use Rattle.walk_transfers.specs.SidesReady.{Within}
 use Rattle.walk_transfers.specs.Moving.{moveElement, moveUnit}
-use Rattle.walk_accesses.specs.Loading.{addressAt, fetched, loadElement, loadUnit, loadedTo}
+use Rattle.walk_accesses.specs.Loading.{addressAt, loadValue, loadElement, loadUnit, loadedTo}
 use Rattle.walk_accesses.specs.Storing.{storeElement, storeUnit, storedTo}
 use Rattle.walk_plans.specs.Plan.{operationPlan, movePlan, loadPlan, storePlan}
 use Rattle.walk_handler.specs.Prepare.{Plan, operation, move, load, store, prepared}
@@ -29,7 +29,8 @@ use Rattle.walk_handler.specs.Unit.{unitOf}
 use Rattle.claims_demands.specs.Premise.{MayWrite}
 use Rattle.claims_demands.proofs.RegistersKept.{unwritten, one-written}
 use Rattle.claims_demands.proofs.Preparing.{served-plan}
-use Rattle.claims_demands.proofs.Units.{UnitSound, operation-sound, transfer-sound, TransferKept}
+use Rattle.claims_demands.proofs.Units.{UnitSound, operation-sound}
+use Rattle.claims_demands.proofs.TransferUnits.{transfer-sound, TransferKept}
 
 module _ (Writes : ℕ → Type 0) (c : Context) where
   move-kept :
@@ -44,7 +45,7 @@ module _ (Writes : ℕ → Type 0) (c : Context) where
   unfolding loadElement
   load-kept p i j w =
       let address = addressAt (p .sides .source .place) (p .offset) (p .width) (c .registers) i in
-      by address (fetched (c .memory) address (p .width) (p .signed))
+      by address (loadValue (c .memory) address (p .width) (p .signed))
     where
       by : (address : ℕ) (l : Loaded) → TransferKept Writes (c .registers) (loadedTo p c address j l)
       by address (loads.Value value) = one-written (c .registers) (registerAt (p .sides .destination .place) j) _ w
@@ -75,15 +76,19 @@ module _ (vl : ℕ) (registers : List ℕ) (c : Context) (within : Within vl (c 
       rw (served-plan vl (Move w) (move (movePlan vl registers w)) plan e)
       (unfold movePlan moveUnit in
       transfer-sound (movePlan vl registers w) 2 (MayWrite vl (Move w)) c within (moveElement (movePlan vl registers w))
-      (λ i j h k. move-kept (MayWrite vl (Move w)) c (movePlan vl registers w) i j (inl (record { position = j; below = omega (arith, k); register = refl }))))
+      (λ i j h k. move-kept (MayWrite vl (Move w)) c (movePlan vl registers w) i j
+      (inl (record { position = j; below = omega (arith, k); register = refl }))))
   unit-sound (Load w) plan e =
-      rw (served-plan vl (Load w) (load (loadPlan vl registers w)) plan e)
+      let made = loadPlan vl registers w in
+      rw (served-plan vl (Load w) (load made) plan e)
       (unfold loadPlan loadUnit in
-      transfer-sound (loadPlan vl registers w .sides) 4 (MayWrite vl (Load w)) c within (loadElement (loadPlan vl registers w))
-      (λ i j h k. load-kept (MayWrite vl (Load w)) c (loadPlan vl registers w) i j (inl (record { position = j; below = omega (arith, k); register = refl }))))
+      transfer-sound (made .sides) 4 (MayWrite vl (Load w)) c within (loadElement made)
+      (λ i j h k. load-kept (MayWrite vl (Load w)) c made i j
+      (inl (record { position = j; below = omega (arith, k); register = refl }))))
   unit-sound (Store w) plan e =
-      rw (served-plan vl (Store w) (store (storePlan vl registers w)) plan e)
+      let made = storePlan vl registers w in
+      rw (served-plan vl (Store w) (store made) plan e)
       (unfold storePlan storeUnit in
-      transfer-sound (storePlan vl registers w .sides) 4 (MayWrite vl (Store w)) c within (storeElement (storePlan vl registers w))
-      (λ i j h k. store-kept (MayWrite vl (Store w)) c (storePlan vl registers w) i j))
+      transfer-sound (made .sides) 4 (MayWrite vl (Store w)) c within (storeElement made)
+      (λ i j h k. store-kept (MayWrite vl (Store w)) c made i j))
   unit-sound Unknown plan e = let z : _≡_ {A = ℕ} 0 1 = cc in absurd (omega arith)

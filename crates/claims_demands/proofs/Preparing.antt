@@ -13,15 +13,15 @@ use Rattle.answers.specs.declared.Answer.the-variants.{Done, UnknownWord, PastR
 use Rattle.answers.specs.Answer.{numberOf, valueOf, accepts}
 use Rattle.bits.specs.Lists.{all}
 use Rattle.bits.proofs.Booleans.{and-left, and-right}
-use Rattle.decode.specs.declared.decoded.Named.{Named}
+use Rattle.decode.specs.declared.decoded.ResolvedOperand.{ResolvedOperand}
 use Rattle.decode.specs.declared.decoded.Decoded.{Decoded}
 use Rattle.decode.specs.declared.decoded.Decoded.the-variants.{Operation, Move, Load, Store, Unknown}
 use Rattle.tables.specs.Entry.{predicateEntry}
 use Rattle.walk_operands.specs.Mask.{maskBy}
-use Rattle.walk_pausable.specs.Call.{Prepared, refused, ready}
+use Rattle.walk_pausable.specs.Call.{refused, ready}
 use Rattle.walk_plans.specs.Operands.{operandsOf, defaultWidth, fitting, checkedOperands, checked}
 use Rattle.walk_plans.specs.Plan.{operationPlan, movePlan, loadPlan, storePlan}
-use Rattle.walk_handler.specs.Prepare.{Plan, operation, move, load, store, served, prepared}
+use Rattle.walk_handler.specs.Prepare.{Plan, served, prepared}
 use Rattle.claims_demands.specs.Premise.{IsMask}
 
 -- the plan of a served word is the one made for it
@@ -34,12 +34,14 @@ served-plan vl word made plan = by (accepts (checked vl word)) (checked vl word)
     by false a e = let z : _≡_ {A = ℕ} 0 1 = cc in absurd (omega arith)
 
 module _ (registers again : List ℕ) where
-  abbrev SameAt : Named → Type 0
-  SameAt n = (n .predicate ≡ 0 → ⊥) → getD again (predicateEntry (n .predicate) .mask) 0 ≡ getD registers (predicateEntry (n .predicate) .mask) 0
+  abbrev SameAt : ResolvedOperand → Type 0
+  SameAt n =
+      let mask = predicateEntry (n .predicate) .mask in
+      (n .predicate ≡ 0 → ⊥) → getD again mask 0 ≡ getD registers mask 0
 
-  mask-same : (n : Named) → SameAt n → maskBy again (n .predicate) ≡ maskBy registers (n .predicate)
+  masks : (n : ResolvedOperand) → SameAt n → maskBy again (n .predicate) ≡ maskBy registers (n .predicate)
   unfolding maskBy
-  mask-same n same = by (eqb (n .predicate) 0) refl
+  masks n same = by (eqb (n .predicate) 0) refl
     where
       by : (t : Bool) → eqb (n .predicate) 0 ≡ t → maskBy again (n .predicate) ≡ maskBy registers (n .predicate)
       by true e = rw e
@@ -50,13 +52,13 @@ module _ (registers again : List ℕ) where
       (vl : ℕ) (word : Decoded) → ((r : ℕ) → IsMask word r → getD again r 0 ≡ getD registers r 0) →
       prepared vl again word ≡ prepared vl registers word
   unfolding prepared operationPlan movePlan loadPlan storePlan
-  prepared-same vl (Operation w) same = rw (mask-same (w .destination) (λ n. same _ (inl (n, refl))))
+  prepared-same vl (Operation w) same = rw (masks (w .destination) (λ n. same _ (inl (n, refl))))
   prepared-same vl (Move w) same =
-      rw (mask-same (w .destination) (λ n. same _ (inl (n, refl))), mask-same (w .source) (λ n. same _ (inr (inl (n, refl)))))
+      rw (masks (w .destination) (λ n. same _ (inl (n, refl))), masks (w .source) (λ n. same _ (inr (inl (n, refl)))))
   prepared-same vl (Load w) same =
-      rw (mask-same (w .destination) (λ n. same _ (inl (n, refl))), mask-same (w .address) (λ n. same _ (inr (inl (n, refl)))))
+      rw (masks (w .destination) (λ n. same _ (inl (n, refl))), masks (w .address) (λ n. same _ (inr (inl (n, refl)))))
   prepared-same vl (Store w) same =
-      rw (mask-same (w .«data») (λ n. same _ (inl (n, refl))), mask-same (w .address) (λ n. same _ (inr (inl (n, refl)))))
+      rw (masks (w .«data») (λ n. same _ (inl (n, refl))), masks (w .address) (λ n. same _ (inr (inl (n, refl)))))
   prepared-same vl Unknown same = refl
 
 -- an answer that refuses a word: it is one of a run's, no pause and no fault, and has no value
@@ -68,16 +70,17 @@ pub record Refusal (a : Answer) : Type 0 where
 
 -- tested all at once
 pub refusal :
-    (a : Answer) → leb (numberOf a) 6 && not (eqb (numberOf a) 1) && not (eqb (numberOf a) 5) && eqb (valueOf a) 0 ≡ true →
-    Refusal a
+    (a : Answer) → let n = numberOf a in
+    leb n 6 && not (eqb n 1) && not (eqb n 5) && eqb (valueOf a) 0 ≡ true → Refusal a
 refusal a h =
+    let n = numberOf a in
     let served = and-left _ _ h in
     let ended = and-left _ _ served in
     record {
-      most = leb-true (numberOf a) 6 (and-left _ _ ended);
-      ends = eqb-false (numberOf a) 1 (not-true _ (and-right (leb (numberOf a) 6) _ ended));
-      serves = eqb-false (numberOf a) 5 (not-true _ (and-right (leb (numberOf a) 6 && not (eqb (numberOf a) 1)) _ served));
-      value = eqb-true (valueOf a) 0 (and-right (leb (numberOf a) 6 && not (eqb (numberOf a) 1) && not (eqb (numberOf a) 5)) _ h);
+      most = leb-true n 6 (and-left _ _ ended);
+      ends = eqb-false n 1 (not-true _ (and-right (leb n 6) _ ended));
+      serves = eqb-false n 5 (not-true _ (and-right (leb n 6 && not (eqb n 1)) _ served));
+      value = eqb-true (valueOf a) 0 (and-right (leb n 6 && not (eqb n 1) && not (eqb n 5)) _ h);
     }
 
 served-refusal : (vl : ℕ) (word : Decoded) (made : Plan) (a : Answer) → served vl word made ≡ refused a → Refusal a

@@ -23,7 +23,7 @@ use Rattle.machine.specs.Run.{System, wordOn, prepare, unit, run}
 use Rattle.claims_demands.specs.Run.{refuses}
 use Rattle.claims_demands.specs.Refusals.{SomeOtherWidth, SomePastVector, RefusedBy, RefusedExactly}
 use Rattle.claims_demands.proofs.Systems.{plan-of}
-use Rattle.claims_demands.proofs.Named.{word-small}
+use Rattle.claims_demands.proofs.Resolved.{word-small}
 use Rattle.claims_demands.proofs.Tested.{other-width, no-other-width, past-vector, no-past-vector}
 use Rattle.claims_demands.proofs.Runs.{walked}
 
@@ -36,8 +36,8 @@ module _ (Q : Prepared Answer Plan → Type 0) (vl : ℕ) (registers : List ℕ)
         (d ≡ Unknown → ⊥) → all defaultWidth (operandsOf d) ≡ true → all (fitting vl) (operandsOf d) ≡ false →
         Q (refused PastRegisters)
     serves :
-        (plan : Plan) → (d ≡ Unknown → ⊥) → all defaultWidth (operandsOf d) ≡ true → all (fitting vl) (operandsOf d) ≡ true →
-        Q (ready plan)
+        (plan : Plan) → (d ≡ Unknown → ⊥) → all defaultWidth (operandsOf d) ≡ true →
+        all (fitting vl) (operandsOf d) ≡ true → Q (ready plan)
 
   by-served : (d : Decoded) (plan : Plan) → (d ≡ Unknown → ⊥) → Cases d → Q (served vl d plan)
   unfolding served accepts checkedOperands
@@ -120,7 +120,7 @@ module _ (word n : ℕ) (s : System) where
       prepare word s ≡ p →
       RefusedBy (s .machine) (wordOn word (s .machine)) (numberOf (begun pausing unit p n s .answer))
 
-  cases : inShape (s .machine) ≡ true → Cases Claim (s .machine .state .vl) (s .machine .registers) (wordOn word (s .machine))
+  cases : let m = s .machine in inShape m ≡ true → Cases Claim (m .state .vl) (m .registers) (wordOn word m)
   unfolding begun
   cases h =
       let m = s .machine in
@@ -138,8 +138,9 @@ module _ (word n : ℕ) (s : System) where
       }
 
   by-shape :
-      (t : Bool) → inShape (s .machine) ≡ t →
-      Claim (cond t (prepared (s .machine .state .vl) (s .machine .registers) (wordOn word (s .machine))) (refused OutOfShape))
+      let m = s .machine in
+      (t : Bool) → inShape m ≡ t →
+      Claim (cond t (prepared (m .state .vl) (m .registers) (wordOn word m)) (refused OutOfShape))
   unfolding begun
   by-shape true h = by-word Claim (s .machine .state .vl) (s .machine .registers) (wordOn word (s .machine)) (cases h)
   by-shape false h = λ e. shape-fails (s .machine) (wordOn word (s .machine)) h

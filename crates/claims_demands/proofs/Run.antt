@@ -5,12 +5,10 @@ use mathlib.Core.Bool.{true}
 use Rattle.answers.specs.declared.Answer.{Answer}
 use Rattle.walk_pausable.specs.Outcome.{outcome}
 use Rattle.walk_pausable.specs.Walk.{walk}
-use Rattle.walk_pausable.specs.Call.{ready}
 use Rattle.walk_pausable.proofs.Invariant.{walk-keeps}
 use Rattle.walk_operations.specs.Context.{pausing}
-use Rattle.walk_handler.specs.Prepare.{Plan}
 use Rattle.machine.specs.Shape.{inShape}
-use Rattle.machine.specs.Run.{System, prepare, unit, run}
+use Rattle.machine.specs.Run.{System, unit, run}
 use Rattle.claims_demands.specs.Run.{Sound, RunSound}
 use Rattle.claims_demands.proofs.Units.{Walked}
 use Rattle.claims_demands.proofs.Preparing.{Refusal}

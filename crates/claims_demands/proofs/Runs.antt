@@ -13,7 +13,8 @@ use Rattle.machine.specs.Run.{System, prepare, unit, run}
 use Rattle.claims_demands.proofs.Units.{Walked, paused-walked}
 use Rattle.claims_demands.proofs.Systems.{PlanOf, plan-kept, sound-on}
 
-pub walked : (word : ℕ) (plan : Plan) (n : ℕ) (s : System) → PlanOf word plan s → Walked (walk pausing (unit plan) n s .answer)
+pub walked :
+    (word : ℕ) (plan : Plan) (n : ℕ) (s : System) → PlanOf word plan s → Walked (walk pausing (unit plan) n s .answer)
 walked word plan =
     walk-induction pausing (unit plan) (λ n s o. PlanOf word plan s → Walked (o .answer))
     (λ s k. paused-walked) (λ n s e k. unit-walked s k) (λ n s o e rest k. rest (plan-kept word s plan k))

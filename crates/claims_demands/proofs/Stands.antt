@@ -6,16 +6,15 @@ use native.Mathlib.Omega.{arith}
 use borrow.Author.Tests.{eqb-true, ne-eqb}
 use Rattle.answers.specs.declared.Answer.{Answer}
 use Rattle.answers.specs.Answer.{numberOf, pauses}
-use Rattle.walk_pausable.specs.Outcome.{outcome}
 use Rattle.walk_pausable.specs.Walk.{walk}
 use Rattle.walk_pausable.specs.Call.{Prepared, refused, ready}
 use Rattle.walk_pausable.specs.Ending.{EndsAfter}
 use Rattle.walk_pausable.proofs.Ending.{walk-ending}
-use Rattle.walk_operations.specs.Context.{context, standing, pausing}
+use Rattle.walk_operations.specs.Context.{context, atOffsets, pausing}
 use Rattle.walk_handler.specs.Prepare.{Plan}
 use Rattle.walk_handler.specs.Unit.{unitOf}
 use Rattle.machine.specs.Run.{System, contextOf, positionOf, prepare, unit, run}
-use Rattle.claims_demands.specs.Run.{standingAt, pairAt, StandsAtFault}
+use Rattle.claims_demands.specs.Run.{systemAtOffsets, pairAt, StandsAtFault}
 use Rattle.claims_demands.proofs.Systems.{prepare-refusal}
 use Rattle.claims_demands.proofs.Faults.{unit-fault, Faults, AtPair}
 use Rattle.claims_demands.proofs.Runs.{run-walk, run-refused}
@@ -38,8 +37,8 @@ fault-at plan s = unit-fault plan (contextOf s)
 stands-at :
     (plan : Plan) (s : System) (i j : ℕ) →
     unitOf plan (contextOf s) .state
-    ≡ context (s .machine .registers) (s .memory) (standing (positionOf (s .machine)) i j) →
-    unit plan s .state ≡ standingAt s i j
+    ≡ context (s .machine .registers) (s .memory) (atOffsets (positionOf (s .machine)) i j) →
+    unit plan s .state ≡ systemAtOffsets s i j
 unfolding unit
 stands-at plan s i j e = rw e
 
@@ -50,7 +49,8 @@ stands-after :
     StandsAtFault word n s
 stands-after word n s plan e ends f =
     let before = run-walk word (ends .units) s plan e in
-    let last : unit plan (run word (ends .units) s .state) ≡ run word n s = rw (before, run-walk word n s plan e) (ends .last) in
+    let last : unit plan (run word (ends .units) s .state) ≡ run word n s =
+    rw (before, run-walk word n s plan e) (ends .last) in
     let at = fault-at plan (run word (ends .units) s .state) (rw last f) in
     record {
       units = ends .units;
@@ -62,7 +62,7 @@ stands-after word n s plan e ends f =
       source = at .source;
       destination = at .destination;
       pair = at .found;
-      left =
+      state =
           sym (ap (λ o. o .state) last)
           ∙ stands-at plan (run word (ends .units) s .state) (at .source) (at .destination) (at .stands);
     }
@@ -71,7 +71,8 @@ fault-stands :
     (word n : ℕ) (s : System) (plan : Plan) → prepare word s ≡ ready plan → Faults (run word n s .answer) →
     StandsAtFault word n s
 fault-stands word n s plan e f =
-    let ended : pauses (walk pausing (unit plan) n s .answer) ≡ false = rw (← run-walk word n s plan e) (fault-ends (run word n s .answer) f) in
+    let ended : pauses (walk pausing (unit plan) n s .answer) ≡ false =
+    rw (← run-walk word n s plan e) (fault-ends (run word n s .answer) f) in
     stands-after word n s plan e (walk-ending pausing (unit plan) n s ended) f
 
 pub fault-known : (word n : ℕ) (s : System) → Faults (run word n s .answer) → StandsAtFault word n s

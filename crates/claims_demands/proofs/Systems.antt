@@ -1,17 +1,15 @@
 -- A unit on the machine and its memory.
-use Prim.Native.Nat.{ℕ, _<_, _≤_}
-use mathlib.Core.Path.{_≡_, refl, sym, _∙_}
+use Prim.Native.Nat.{ℕ}
+use mathlib.Core.Path.{_≡_, refl}
 use mathlib.Core.Bool.{Bool, true, false, cond}
 use mathlib.Core.List.{List}
-use lib.ListN.{length, getD}
+use lib.ListN.{getD}
 use native.Mathlib.Omega.{arith}
 use Rattle.answers.specs.declared.Answer.{Answer}
 use Rattle.answers.specs.declared.Answer.the-variants.{OutOfShape}
-use Rattle.decode.specs.declared.decoded.Decoded.{Decoded}
-use Rattle.walk_pausable.specs.Outcome.{Outcome}
-use Rattle.walk_pausable.specs.Call.{Prepared, refused, ready}
+use Rattle.walk_pausable.specs.Call.{refused, ready}
 use Rattle.state_word.proofs.States as state
-use Rattle.state_word.proofs.States.{Bounds, bounds}
+use Rattle.state_word.proofs.States.{bounds}
 use Rattle.walk_transfers.specs.SidesReady.{Within}
 use Rattle.walk_operations.specs.Context.{Context}
 use Rattle.walk_handler.specs.Prepare.{Plan, prepared}
@@ -19,10 +17,9 @@ use Rattle.walk_handler.specs.Unit.{unitOf}
 use Rattle.machine.specs.declared.Machine.{Machine}
 use Rattle.machine.specs.Shape.{inShape}
 use Rattle.machine.specs.Run.{System, contextOf, withPosition, wordOn, prepare, unit}
-use Rattle.machine.proofs.Handled.{standing-within}
+use Rattle.machine.proofs.Handled.{position-within}
 use Rattle.machine.proofs.Shapes.{parts, in-shape}
 use Rattle.claims_demands.specs.Premise.{MayWrite}
-use Rattle.claims_demands.proofs.RegistersKept.{RegistersKept}
 use Rattle.claims_demands.proofs.Units.{UnitSound}
 use Rattle.claims_demands.proofs.Preparing.{Refusal, refusal, prepared-refusal}
 use Rattle.claims_demands.proofs.PlanSound.{unit-sound}
@@ -62,8 +59,8 @@ module _ (word : ℕ) (s : System) where
     where
       by :
           (t : Bool) → inShape (s .machine) ≡ t →
-          cond t (prepared (s .machine .state .vl) (s .machine .registers) (wordOn word (s .machine))) (refused OutOfShape)
-          ≡ ready plan → PlanOf word plan s
+          cond t (prepared (s .machine .state .vl) (s .machine .registers) (wordOn word (s .machine)))
+          (refused OutOfShape) ≡ ready plan → PlanOf word plan s
       by true h e = record { shaped = h; registers = s .machine .registers; planned = e }
       by false h e = let z : _≡_ {A = ℕ} 0 1 = cc in absurd (omega arith)
 
@@ -73,17 +70,17 @@ module _ (word : ℕ) (s : System) where
     where
       by :
           (t : Bool) →
-          cond t (prepared (s .machine .state .vl) (s .machine .registers) (wordOn word (s .machine))) (refused OutOfShape)
-          ≡ refused a → Refusal a
+          cond t (prepared (s .machine .state .vl) (s .machine .registers) (wordOn word (s .machine)))
+          (refused OutOfShape) ≡ refused a → Refusal a
       by true = prepared-refusal (s .machine .state .vl) (s .machine .registers) (wordOn word (s .machine)) a
       by false = λ e. let f : a ≡ OutOfShape = cc in rw f (refusal OutOfShape refl)
 
   pub sound-on :
       (plan : Plan) → PlanOf word plan s →
-      UnitSound (s .machine .state .vl) (MayWrite (s .machine .state .vl) (wordOn word (s .machine))) (s .machine .registers)
-      (unitOf plan (contextOf s))
+      UnitSound (s .machine .state .vl) (MayWrite (s .machine .state .vl) (wordOn word (s .machine)))
+      (s .machine .registers) (unitOf plan (contextOf s))
   sound-on plan k =
-      unit-sound (s .machine .state .vl) (k .registers) (contextOf s) (standing-within (s .machine) (k .shaped))
+      unit-sound (s .machine .state .vl) (k .registers) (contextOf s) (position-within (s .machine) (k .shaped))
       (wordOn word (s .machine)) plan (k .planned)
 
   -- a unit keeps the machine in shape, and the plan is still one of the word

@@ -2,23 +2,25 @@
 use Prim.Native.Nat.{ℕ, _+_, _-_, _<_, _≤_}
 use mathlib.Core.Logic.{inl, inr}
 use mathlib.Core.Path.{_≡_, refl, sym}
-use mathlib.Core.Bool.{Bool, true, false, cond, _&&_, true≢false}
+use mathlib.Core.Bool.{Bool, true, false, cond, true≢false}
 use mathlib.Core.List.{List, [], _∷_}
 use lib.Dec.{ltb}
 use native.Mathlib.Omega.{arith}
 use borrow.Author.Tests.{eqb-true, eqb-false, ltb-true, ltb-false}
-use Rattle.decode.specs.declared.decoded.Named.{Named}
+use Rattle.decode.specs.declared.decoded.ResolvedOperand.{ResolvedOperand}
 use Rattle.walk_operands.specs.declared.place.Place.{Place}
 use Rattle.walk_operands.specs.Place.{placeOf, registerAt, fits}
 use Rattle.bits.specs.Lists.{all}
 use Rattle.walk_plans.specs.Operands.{defaultWidth, fitting}
 use Rattle.claims_calls.specs.Lists.{Some}
 use Rattle.claims_demands.specs.Refusals.{OtherWidth, PastVector}
-use Rattle.claims_demands.proofs.Named.{All, Small}
+use Rattle.claims_demands.proofs.Resolved.{All, Small}
 
 -- Q is what an operand has that fails the test; A is known of every operand
-module _ (test : Named → Bool) (Q A : Named → Type 0) where
-  some-fails : ((n : Named) → A n → test n ≡ false → Q n) → (ns : List Named) → All A ns → all test ns ≡ false → Some Q ns
+module _ (test : ResolvedOperand → Bool) (Q A : ResolvedOperand → Type 0) where
+  some-fails :
+      ((n : ResolvedOperand) → A n → test n ≡ false → Q n) → (ns : List ResolvedOperand) → All A ns →
+      all test ns ≡ false → Some Q ns
   unfolding all
   some-fails q [] a e = absurd (true≢false e)
   some-fails q (n ∷ ns) a e = by (test n) refl (some-fails q ns (a .1))
@@ -27,7 +29,9 @@ module _ (test : Named → Bool) (Q A : Named → Type 0) where
       by true f rest = inr (rest (rw f at e))
       by false f rest = inl (q n (a .0) f)
 
-  none-fails : ((n : Named) → test n ≡ true → Q n → ⊥) → (ns : List Named) → all test ns ≡ true → Some Q ns → ⊥
+  none-fails :
+      ((n : ResolvedOperand) → test n ≡ true → Q n → ⊥) → (ns : List ResolvedOperand) → all test ns ≡ true →
+      Some Q ns → ⊥
   unfolding all
   none-fails q [] e s = absurd s
   none-fails q (n ∷ ns) e s = by (test n) refl s (none-fails q ns)
@@ -37,11 +41,11 @@ module _ (test : Named → Bool) (Q A : Named → Type 0) where
       by true f (inr h) rest = rest (rw f at e) h
       by false f h rest = true≢false (sym (rw f at e))
 
-pub other-width : (ns : List Named) → All Small ns → all defaultWidth ns ≡ false → Some OtherWidth ns
+pub other-width : (ns : List ResolvedOperand) → All Small ns → all defaultWidth ns ≡ false → Some OtherWidth ns
 unfolding defaultWidth
 other-width = some-fails defaultWidth OtherWidth Small (λ n a e. eqb-false (n .width) 0 e)
 
-pub no-other-width : (ns : List Named) → all defaultWidth ns ≡ true → Some OtherWidth ns → ⊥
+pub no-other-width : (ns : List ResolvedOperand) → all defaultWidth ns ≡ true → Some OtherWidth ns → ⊥
 unfolding defaultWidth
 no-other-width = none-fails defaultWidth OtherWidth Small (λ n e q. q (eqb-true (n .width) 0 e))
 
@@ -60,12 +64,14 @@ module _ (vl : ℕ) where
 
   place-fits : (p : Place) → fits vl p ≡ true → p .vector ≡ true → 128 ≤ p .register + (vl - 1) → ⊥
   unfolding fits registerAt
-  place-fits p e v h = let f : ltb (p .register + (vl - 1)) 128 ≡ true = rw v at e in omega (arith, ltb-true (p .register + (vl - 1)) 128 f)
+  place-fits p e v h =
+      let f : ltb (p .register + (vl - 1)) 128 ≡ true = rw v at e in
+      omega (arith, ltb-true (p .register + (vl - 1)) 128 f)
 
-  pub past-vector : (ns : List Named) → All Small ns → all (fitting vl) ns ≡ false → Some (PastVector vl) ns
+  pub past-vector : (ns : List ResolvedOperand) → All Small ns → all (fitting vl) ns ≡ false → Some (PastVector vl) ns
   unfolding fitting
   past-vector = some-fails (fitting vl) (PastVector vl) Small (λ n a e. place-past (placeOf n) a e)
 
-  pub no-past-vector : (ns : List Named) → all (fitting vl) ns ≡ true → Some (PastVector vl) ns → ⊥
+  pub no-past-vector : (ns : List ResolvedOperand) → all (fitting vl) ns ≡ true → Some (PastVector vl) ns → ⊥
   unfolding fitting
   no-past-vector = none-fails (fitting vl) (PastVector vl) Small (λ n e q. place-fits (placeOf n) e (q .0) (q .1))

@@ -2,7 +2,7 @@
 use Prim.Native.Nat.{ℕ, _<_}
 use mathlib.Core.Path.{_≡_}
 use mathlib.Core.List.{List, [], _∷_}
-use Rattle.decode.specs.declared.decoded.Named.{Named}
+use Rattle.decode.specs.declared.decoded.ResolvedOperand.{ResolvedOperand}
 use Rattle.decode.specs.declared.decoded.Decoded.{Decoded}
 use Rattle.decode.specs.declared.decoded.Decoded.the-variants.{Operation, Move, Load, Store, Unknown}
 use Rattle.tables.specs.Entry.{predicateEntry}
@@ -13,7 +13,7 @@ use Rattle.machine.specs.Run.{wordOn}
 use Rattle.claims_calls.specs.Lists.{Some}
 
 -- a store has no destination
-abbrev pub destinationsOf : Decoded → List Named
+abbrev pub destinationsOf : Decoded → List ResolvedOperand
 destinationsOf (Operation w) = w .destination ∷ []
 destinationsOf (Move w) = w .destination ∷ []
 destinationsOf (Load w) = w .destination ∷ []
@@ -21,14 +21,14 @@ destinationsOf (Store w) = []
 destinationsOf Unknown = []
 
 -- The mask register set for an operand is the one in the predicate entry that holds for it.
-abbrev pub MaskSet : ℕ → Named → Type 0
+abbrev pub MaskSet : ℕ → ResolvedOperand → Type 0
 MaskSet r n = (n .predicate ≡ 0 → ⊥) × (predicateEntry (n .predicate) .mask ≡ r)
 
 abbrev pub IsMask : Decoded → ℕ → Type 0
 IsMask word r = Some (MaskSet r) (operandsOf word)
 
 -- some position below VL has register r
-pub record Reaches (vl r : ℕ) (n : Named) : Type 0 where
+pub record Reaches (vl r : ℕ) (n : ResolvedOperand) : Type 0 where
   pub position : ℕ
   pub below : position < vl
   pub register : registerAt (placeOf n) position ≡ r

@@ -4,7 +4,7 @@ use mathlib.Core.Path.{_≡_}
 use mathlib.Core.Logic.{_↔_}
 use mathlib.Core.Bool.{true, false}
 use Rattle.answers.specs.Answer.{numberOf}
-use Rattle.decode.specs.declared.decoded.Named.{Named}
+use Rattle.decode.specs.declared.decoded.ResolvedOperand.{ResolvedOperand}
 use Rattle.decode.specs.declared.decoded.Decoded.{Decoded}
 use Rattle.decode.specs.declared.decoded.Decoded.the-variants.{Unknown}
 use Rattle.walk_operands.specs.Place.{placeOf}
@@ -15,14 +15,14 @@ use Rattle.machine.specs.Run.{System, wordOn, run}
 use Rattle.claims_calls.specs.Lists.{Some}
 
 -- the entry that holds for an operand has a width other than 00
-abbrev pub OtherWidth : Named → Type 0
+abbrev pub OtherWidth : ResolvedOperand → Type 0
 OtherWidth n = n .width ≡ 0 → ⊥
 
 abbrev pub SomeOtherWidth : Decoded → Type 0
 SomeOtherWidth word = Some OtherWidth (operandsOf word)
 
 -- a vector operand's register + VL - 1 is above 127
-abbrev pub PastVector : ℕ → Named → Type 0
+abbrev pub PastVector : ℕ → ResolvedOperand → Type 0
 PastVector vl n = (placeOf n .vector ≡ true) × (128 ≤ placeOf n .register + (vl - 1))
 
 abbrev pub SomePastVector : Machine → Decoded → Type 0

@@ -22,8 +22,8 @@ abbrev pub refuses : Answer → Bool
 refuses a = eqb (numberOf a) 2 || eqb (numberOf a) 3 || eqb (numberOf a) 4 || eqb (numberOf a) 6
 
 -- the offsets as given, and nothing else changed
-abbrev pub standingAt : System → ℕ → ℕ → System
-standingAt s i j = system (withState (s .machine) (withOffsets (s .machine .state) i j)) (s .memory)
+abbrev pub systemAtOffsets : System → ℕ → ℕ → System
+systemAtOffsets s i j = system (withState (s .machine) (withOffsets (s .machine .state) i j)) (s .memory)
 
 -- the pair of positions that a unit works at; an operation has one position
 abbrev pub pairAt : Plan → Position → Pair
@@ -32,8 +32,8 @@ pairAt (move s) position = pairOf s position
 pairAt (load p) position = pairOf (p .sides) position
 pairAt (store p) position = pairOf (p .sides) position
 
--- A fault leaves exactly the elements before it: fewer units than allowed paused, and what they left stays as it is, with the
--- offsets at the pair of positions that failed.
+-- A fault leaves exactly the elements before it: fewer units than allowed paused, and what they left stays as it is,
+-- with the offsets at the pair of positions that failed.
 pub record StandsAtFault (word n : ℕ) (s : System) : Type 0 where
   pub units : ℕ
   pub fewer : units < n
@@ -44,7 +44,7 @@ pub record StandsAtFault (word n : ℕ) (s : System) : Type 0 where
   pub source : ℕ
   pub destination : ℕ
   pub pair : pairAt plan (positionOf (run word units s .state .machine)) ≡ Found source destination
-  pub left : run word n s .state ≡ standingAt (run word units s .state) source destination
+  pub state : run word n s .state ≡ systemAtOffsets (run word units s .state) source destination
 
 -- what a run from s answers and leaves, o
 pub record Sound (s : System) (o : Outcome Answer System) : Type 0 where

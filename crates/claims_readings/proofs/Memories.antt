@@ -27,7 +27,9 @@ of-length P n each l size =
     (subst (λ (k : ℕ). (f : ℕ → ℕ) → P (listOf k f)) (sym size) each (λ i. getD l i 0))
 
 -- a doubleword is its own extension
-pub extended : (memory : List ℕ) (address : ℕ) → Bytes memory → signExtended Double (number memory address 8) ≡ number memory address 8
+pub extended :
+    (memory : List ℕ) (address : ℕ) → Bytes memory →
+    signExtended Double (number memory address 8) ≡ number memory address 8
 unfolding signExtended
 extended memory address bytes =
     let h = number-below memory address 8 bytes in

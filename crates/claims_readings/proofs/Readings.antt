@@ -7,11 +7,11 @@ use Rattle.compute.specs.Compute.{computed}
 use Rattle.tables.specs.Enabled.{enabledRange}
 use Rattle.tables.specs.Entry.{clearBelow}
 use Rattle.search.specs.Search.{entryAnswers, candidate, highest, heldEntry}
-use Rattle.state_word.specs.State.{stateInShape, fields, wordOf, goodWord}
+use Rattle.state_word.specs.State.{stateInShape, ofWord, wordOf, goodWord}
 use Rattle.memory.specs.Access.{inside, located}
 use Rattle.memory.specs.Transfer.{loaded}
 use Rattle.encoding.specs.Listing.{funct3Rows, funct6Rows, funct7Rows, firstForm, lookUp}
-use Rattle.decode.specs.Naming.{named}
+use Rattle.decode.specs.Resolving.{resolved}
 use Rattle.decode.specs.Decoding.{decoded, decodedAs, compressedMove}
 use Rattle.walk_operands.specs.Place.{registerAt, fits}
 use Rattle.walk_operands.specs.Mask.{onBits, maskBy, isOn}
@@ -20,9 +20,9 @@ use Rattle.walk_pairs.specs.Pair.{firstOn, skipped, pairFrom}
 use Rattle.walk_pausable.specs.Walk.{walk}
 use Rattle.walk_pausable.specs.Call.{begun}
 use Rattle.walk_operations.specs.Operation.{elementOf, registersAfter, goOn, afterOn, positionAfter, operationUnit}
-use Rattle.walk_transfers.specs.Transfer.{pairOf, afterPair, settled, atPair, transferUnit}
+use Rattle.walk_transfers.specs.Transfer.{pairOf, afterPair, afterTransfer, atPair, transferUnit}
 use Rattle.walk_transfers.specs.Moving.{moveElement, moveUnit}
-use Rattle.walk_accesses.specs.Loading.{addressAt, fetched, loadElement, loadUnit}
+use Rattle.walk_accesses.specs.Loading.{addressAt, loadValue, loadElement, loadUnit}
 use Rattle.walk_plans.specs.Operands.{defaultWidth, fitting, checkedOperands}
 use Rattle.bits.specs.Lists.{all}
 use Rattle.walk_plans.specs.Plan.{operationPlan, movePlan, loadPlan}
@@ -52,10 +52,10 @@ use Rattle.claims_readings.specs.Machines.{
 
 pub readings : Readings
 unfolding accepts pauses verdict written computed enabledRange clearBelow entryAnswers candidate highest heldEntry
-    stateInShape fields wordOf goodWord inside located loaded funct3Rows funct6Rows funct7Rows firstForm lookUp named
+    stateInShape ofWord wordOf goodWord inside located loaded funct3Rows funct6Rows funct7Rows firstForm lookUp resolved
     decoded decodedAs compressedMove registerAt fits onBits maskBy isOn start next past firstOn skipped pairFrom walk
-    begun elementOf registersAfter goOn afterOn positionAfter operationUnit pairOf afterPair settled atPair
-    transferUnit moveElement moveUnit addressAt fetched loadElement loadUnit all defaultWidth fitting checkedOperands
+    begun elementOf registersAfter goOn afterOn positionAfter operationUnit pairOf afterPair afterTransfer atPair
+    transferUnit moveElement moveUnit addressAt loadValue loadElement loadUnit all defaultWidth fitting checkedOperands
     operationPlan movePlan loadPlan served prepared inShape roomInShape tablesInShape setStateWord setRegisterEntry
     setRegister prepare unit run putFrom base settings holding tagged masked withLengths positioned nines
     scalarDestination sourceMask destinationMask loading enabledBelow full sums

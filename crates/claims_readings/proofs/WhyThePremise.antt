@@ -13,7 +13,7 @@ use Rattle.tables.specs.Entry.{clearBelow}
 use Rattle.search.specs.Search.{entryAnswers, candidate, highest, heldEntry}
 use Rattle.state_word.specs.State.{stateInShape}
 use Rattle.encoding.specs.Listing.{funct3Rows, funct6Rows, funct7Rows, firstForm, lookUp}
-use Rattle.decode.specs.Naming.{named}
+use Rattle.decode.specs.Resolving.{resolved}
 use Rattle.decode.specs.Decoding.{decoded, decodedAs}
 use Rattle.walk_operands.specs.Place.{registerAt, fits}
 use Rattle.walk_operands.specs.Mask.{onBits, maskBy, isOn}
@@ -35,7 +35,7 @@ register42 o = getD (o .state .machine .registers) 42 0
 
 pub why-the-premise : WhyThePremise
 unfolding register42 accepts pauses written computed enabledRange clearBelow entryAnswers candidate highest heldEntry
-    stateInShape funct3Rows funct6Rows funct7Rows firstForm lookUp named decoded decodedAs registerAt fits onBits
+    stateInShape funct3Rows funct6Rows funct7Rows firstForm lookUp resolved decoded decodedAs registerAt fits onBits
     maskBy isOn walk begun listed elementOf registersAfter goOn afterOn positionAfter operationUnit all defaultWidth
     fitting checkedOperands operationPlan served prepared inShape roomInShape tablesInShape prepare unit run putFrom
     base holding masked positioned maskWritten
@@ -44,5 +44,7 @@ why-the-premise = record {
   first = λ memory. refl;
   cut = λ memory. refl;
   differ = λ memory e. let z : _≡_ {A = ℕ} 0 4 = ap register42 e in omega arith;
-  not-apart = λ apart. apart 41 (inl (λ e. omega (arith, e), refl)) (inl (record { position = 1; below = omega arith; register = refl }));
+  not-apart = λ apart.
+      apart 41 (inl (λ e. omega (arith, e), refl))
+      (inl (record { position = 1; below = omega arith; register = refl }));
 }

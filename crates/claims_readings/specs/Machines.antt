@@ -104,8 +104,8 @@ loading = tagged 1 0 (holding 6 (16 ∷ []) (withLengths 4 3 base))
 abbrev pub paused : Machine
 paused = withState freshMachine (record { mvl = 64; vl = 10; cfg = 24; source = 3; destination = 5 })
 
--- P12: MVL 64, VL 64, and a register entry in place of one of B's. Entries C085 and C185 are key 5 and the vectors at 64 and 65;
--- C086 and C186 the same with key 6.
+-- P12: MVL 64, VL 64, and a register entry in place of one of B's. Entries C085 and C185 are key 5 and the vectors at
+-- 64 and 65; C086 and C186 the same with key 6.
 unfoldable pub full : ℕ → ℕ → Machine
 full i entry = tagged i entry (withLengths 64 64 base)
 

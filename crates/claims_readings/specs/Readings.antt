@@ -1,6 +1,6 @@
--- The bench readings P1 to P12 of 01, one field or a few for each. Every field about a run equates the whole machine and memory,
--- so it says of each register, table entry and byte that isn't named that it stays. After the machine that a call starts from stand
--- the number and the value that it returns.
+-- The bench readings P1 to P12 of 01, one field or a few for each. Every field about a run equates the whole machine
+-- and memory, so it says of each register, table entry and byte that isn't named that it stays. After the machine that
+-- a call starts from stand the number and the value that it returns.
 use Prim.Native.Nat.{ℕ, zero, suc}
 use mathlib.Core.Path.{_≡_}
 use mathlib.Core.Bool.{cond}
@@ -72,7 +72,8 @@ pub record Readings : Type 0 where
       (positioned 2 0 0 (holding 40 (0 ∷ 0 ∷ 0 ∷ 1 ∷ []) (destinationMask 0b1000)))
   -- destination mask 0, allowance 1: done, nothing moved
   pub p8 : Runs move 1 (destinationMask 0) 0 0 (positioned 2 0 0 (destinationMask 0))
-  -- memory of 40 bytes, whatever they are: answer 5, address 40, offsets 2 and 2, two elements loaded, the program counter as it was
+  -- memory of 40 bytes, whatever they are: answer 5, address 40, offsets 2 and 2, two elements loaded, the program
+  -- counter as it was
   pub p9-short :
       (memory : List ℕ) → length memory ≡ 40 → Bytes memory →
       RunsOn memory load most loading 5 40

@@ -30,7 +30,8 @@ Replies reply number value left = reported (reply .answer) (reply .machine) ≡ 
 abbrev pub Ends : Outcome Answer System → ℕ → ℕ → System → Type 0
 Ends o number value left = reported (o .answer) (o .state) ≡ report number value left
 
--- A run of a word from a machine with a memory: number, value, and the machine that it leaves, with the memory as it was.
+-- A run of a word from a machine with a memory: number, value, and the machine that it leaves, with the memory as it
+-- was.
 abbrev pub RunsOn : List ℕ → ℕ → ℕ → Machine → ℕ → ℕ → Machine → Type 0
 RunsOn memory word allowance before number value left =
     Ends (run word allowance (system before memory)) number value (system left memory)

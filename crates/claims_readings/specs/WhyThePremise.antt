@@ -1,8 +1,9 @@
--- Why demand 3 has its premise: where a mask register lies among the registers that are written, a cut makes a difference.
+-- Why demand 3 has its premise: where a mask register lies among the registers that are written, a cut makes a
+-- difference.
 use mathlib.Core.Path.{_≡_}
 use mathlib.Core.List.{List, [], _∷_}
 use Prim.Native.Nat.{ℕ}
-use Rattle.walk_pausable.specs.Call.{Further, total}
+use Rattle.walk_pausable.specs.Call.{NextCall, total}
 use Rattle.machine.specs.declared.Machine.{Machine}
 use Rattle.machine.specs.Run.{system, run}
 use Rattle.claims_demands.specs.Premise.{Apart}
@@ -15,7 +16,7 @@ unfoldable pub maskWritten : Machine
 maskWritten = masked 0x2952 (holding 41 (15 ∷ []) (holding 7 (1 ∷ []) base))
 
 -- after the cut nothing happens, and the rest may be done
-abbrev pub rest : List (Further Between)
+abbrev pub rest : List (NextCall Between)
 rest = record { change = nothing; allowance = most } ∷ []
 
 pub record WhyThePremise : Type 0 where

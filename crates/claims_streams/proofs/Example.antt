@@ -8,12 +8,12 @@ use Rattle.scalar.specs.Signed.{signExtended}
 use Rattle.tables.specs.Enabled.{enabledRange}
 use Rattle.tables.specs.Entry.{clearBelow}
 use Rattle.search.specs.Search.{entryAnswers, candidate, highest, heldEntry}
-use Rattle.state_word.specs.State.{stateInShape, fields, goodWord}
+use Rattle.state_word.specs.State.{stateInShape, ofWord, goodWord}
 use Rattle.memory.specs.Access.{inside, located}
 use Rattle.memory.specs.LittleEndian.{number}
 use Rattle.memory.specs.Transfer.{loaded}
 use Rattle.encoding.specs.Listing.{funct3Rows, funct6Rows, funct7Rows, firstForm, lookUp}
-use Rattle.decode.specs.Naming.{named}
+use Rattle.decode.specs.Resolving.{resolved}
 use Rattle.decode.specs.Decoding.{decoded, decodedAs, compressedMove}
 use Rattle.walk_operands.specs.Place.{registerAt, fits}
 use Rattle.walk_operands.specs.Mask.{onBits, maskBy, isOn}
@@ -22,7 +22,7 @@ use Rattle.walk_pairs.specs.Pair.{firstOn, skipped, pairFrom}
 use Rattle.walk_pausable.specs.Walk.{walk}
 use Rattle.walk_pausable.specs.Call.{begun}
 use Rattle.walk_operations.specs.Operation.{elementOf, registersAfter, goOn, afterOn, positionAfter, operationUnit}
-use Rattle.walk_transfers.specs.Transfer.{pairOf, afterPair, settled, atPair, transferUnit}
+use Rattle.walk_transfers.specs.Transfer.{pairOf, afterPair, afterTransfer, atPair, transferUnit}
 use Rattle.walk_transfers.specs.Moving.{moveElement, moveUnit}
 use Rattle.walk_accesses.specs.Loading.{addressAt, loadElement, loadUnit}
 use Rattle.walk_plans.specs.Operands.{defaultWidth, fitting, checkedOperands}
@@ -43,9 +43,9 @@ use Rattle.claims_streams.specs.Example.{exampleBytes, exampleText, Outp
 
 pub outputs : Outputs
 unfolding accepts pauses verdict written computed signExtended enabledRange clearBelow entryAnswers candidate highest
-    heldEntry stateInShape fields goodWord inside located number loaded funct3Rows funct6Rows funct7Rows firstForm
-    lookUp named decoded decodedAs compressedMove registerAt fits onBits maskBy isOn start next past firstOn skipped
-    pairFrom walk begun elementOf registersAfter goOn afterOn positionAfter operationUnit pairOf afterPair settled
+    heldEntry stateInShape ofWord goodWord inside located number loaded funct3Rows funct6Rows funct7Rows firstForm
+    lookUp resolved decoded decodedAs compressedMove registerAt fits onBits maskBy isOn start next past firstOn skipped
+    pairFrom walk begun elementOf registersAfter goOn afterOn positionAfter operationUnit pairOf afterPair afterTransfer
     atPair transferUnit moveElement moveUnit addressAt loadElement loadUnit all defaultWidth fitting checkedOperands
     operationPlan movePlan loadPlan served prepared inShape roomInShape tablesInShape setStateWord setRegisterEntry
     setRegister prepare unit run storeAnswer stored layouts layoutOf servedLayout recordOf bodyAt nextRecord taken

@@ -1,3 +1,3 @@
 pub mod Held
 pub mod Lengths
-pub mod Readings
+pub mod Examples

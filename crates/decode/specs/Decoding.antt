@@ -6,27 +6,27 @@ use lib.Dec.{eqb}
 use Rattle.scalar.specs.declared.width.Width.{Width}
 use Rattle.scalar.specs.declared.operator.Operator.{Operator}
 use Rattle.bits.specs.Bits.{bits}
-use Rattle.decode.specs.declared.decoded.Named.{Named}
-use Rattle.decode.specs.declared.decoded.Second.{Second}
-use Rattle.decode.specs.declared.decoded.Second.the-variants as second
+use Rattle.decode.specs.declared.decoded.ResolvedOperand.{ResolvedOperand}
+use Rattle.decode.specs.declared.decoded.SecondOperand.{SecondOperand}
+use Rattle.decode.specs.declared.decoded.SecondOperand.the-variants as second
 use Rattle.decode.specs.declared.decoded.Decoded.{Decoded}
 use Rattle.decode.specs.declared.decoded.Decoded.the-variants.{Operation, Move, Load, Store, Unknown}
 use Rattle.encoding.specs.declared.form.Form.{Form}
 use Rattle.encoding.specs.declared.form.Form.the-variants as form
 use Rattle.encoding.specs.Fields.{rd, rs1, rs2, shiftAmount, wordShiftAmount, immediate, storeImmediate, compressedRs2}
 use Rattle.encoding.specs.Listing.{formOf}
-use Rattle.decode.specs.Naming.{named}
+use Rattle.decode.specs.Resolving.{resolved}
 
-module _ (name : ℕ → Named) (word : ℕ) where
-  abbrev pub operationWith : Operator → Second → Decoded
+module _ (operand : ℕ → ResolvedOperand) (word : ℕ) where
+  abbrev pub operationWith : Operator → SecondOperand → Decoded
   operationWith o s =
-      Operation (record { operator = o; destination = name (rd word); first = name (rs1 word); second = s })
+      Operation (record { operator = o; destination = operand (rd word); first = operand (rs1 word); second = s })
 
   abbrev pub loadWith : Width → Bool → Decoded
   loadWith w s =
       Load (record {
-        destination = name (rd word);
-        address = name (rs1 word);
+        destination = operand (rd word);
+        address = operand (rs1 word);
         offset = immediate word;
         width = w;
         signed = s;
@@ -34,10 +34,15 @@ module _ (name : ℕ → Named) (word : ℕ) where
 
   abbrev pub storeWith : Width → Decoded
   storeWith w =
-      Store (record { «data» = name (rs2 word); address = name (rs1 word); offset = storeImmediate word; width = w })
+      Store (record {
+        «data» = operand (rs2 word);
+        address = operand (rs1 word);
+        offset = storeImmediate word;
+        width = w;
+      })
 
   unfoldable pub decodedAs : Form → Decoded
-  decodedAs (form.Register o) = operationWith o (second.Register (name (rs2 word)))
+  decodedAs (form.Register o) = operationWith o (second.Register (operand (rs2 word)))
   decodedAs (form.Immediate o) = operationWith o (second.Immediate (immediate word))
   decodedAs (form.Shift o) = operationWith o (second.Immediate (shiftAmount word))
   decodedAs (form.WordShift o) = operationWith o (second.Immediate (wordShiftAmount word))
@@ -50,11 +55,11 @@ module _ (name : ℕ → Named) (word : ℕ) where
   unfoldable pub compressedMove : Decoded
   compressedMove =
       cond (eqb (bits 1 0 word) 0b10 && eqb (bits 15 12 word) 0b1000 && not (eqb (compressedRs2 word) 0))
-      (Move (record { destination = name (rd word); source = name (compressedRs2 word) }))
+      (Move (record { destination = operand (rd word); source = operand (compressedRs2 word) }))
       Unknown
 
 -- a word has 32 bits if its lowest two are 11, and 16 bits otherwise
 unfoldable pub decoded : ℕ → ℕ → List ℕ → List ℕ → Decoded
 decoded word cfg registerTable predicateTable =
-    let name = named cfg registerTable predicateTable in
-    cond (eqb (bits 1 0 word) 0b11) (decodedAs name word (formOf word)) (compressedMove name word)
+    let operand = resolved cfg registerTable predicateTable in
+    cond (eqb (bits 1 0 word) 0b11) (decodedAs operand word (formOf word)) (compressedMove operand word)

@@ -1,3 +1,3 @@
-pub mod Naming
+pub mod Resolving
 pub mod Decoding
-pub mod Readings
+pub mod Examples

@@ -11,40 +11,40 @@ pub enum Operand {
 
 // An operand with the width of the register entry that holds for it (0 where none does)
 // and the word of the predicate entry that holds for it (0, the empty entry, where none does).
-pub struct Named {
+pub struct ResolvedOperand {
     pub operand: Operand,
     pub width: u8,
     pub predicate: u16,
 }
 
-pub enum Second {
-    Register(Named),
+pub enum SecondOperand {
+    Register(ResolvedOperand),
     Immediate(u64),
 }
 
 pub struct OperationWord {
     pub operator: Operator,
-    pub destination: Named,
-    pub first: Named,
-    pub second: Second,
+    pub destination: ResolvedOperand,
+    pub first: ResolvedOperand,
+    pub second: SecondOperand,
 }
 
 pub struct MoveWord {
-    pub destination: Named,
-    pub source: Named,
+    pub destination: ResolvedOperand,
+    pub source: ResolvedOperand,
 }
 
 pub struct LoadWord {
-    pub destination: Named,
-    pub address: Named,
+    pub destination: ResolvedOperand,
+    pub address: ResolvedOperand,
     pub offset: u64,
     pub width: Width,
     pub signed: bool,
 }
 
 pub struct StoreWord {
-    pub data: Named,
-    pub address: Named,
+    pub data: ResolvedOperand,
+    pub address: ResolvedOperand,
     pub offset: u64,
     pub width: Width,
 }

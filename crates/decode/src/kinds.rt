@@ -1,34 +1,35 @@
 // The kinds of instructions, with their operands.
 ghost use mathlib.Core.Path.{_≡_};
-ghost use Rattle.decode.specs.Naming.{named};
+ghost use Rattle.decode.specs.Resolving.{resolved};
 ghost use Rattle.decode.specs.Decoding.{operationWith, loadWith, storeWith, compressedMove};
 use crate::decoded::Decoded;
 use crate::decoded::LoadWord;
 use crate::decoded::MoveWord;
 use crate::decoded::OperationWord;
-use crate::decoded::Second;
+use crate::decoded::SecondOperand;
 use crate::decoded::StoreWord;
-use crate::operand::named_for;
+use crate::operand::resolve;
 use encoding::fields;
 use scalar::operator::Operator;
 use scalar::width::Width;
+use tables::ENTRIES;
 
 // An operation writes to rd; its first operand is rs1.
-pub(crate) fn operation<'a>(
+pub(crate) fn operation_with<'a>(
     operator: Operator,
-    second: Second,
+    second: SecondOperand,
     word: u32,
     cfg: u32,
-    register_table: &'a [u16; 16],
-    predicate_table: &'a [u16; 16],
+    register_table: &'a [u16; ENTRIES],
+    predicate_table: &'a [u16; ENTRIES],
 ) -> Decoded
     ensures { λ r. ⌜
-        (let name = named cfg (now («register_table» .entry)) (now («predicate_table» .entry)) in
-        r ≡ operationWith name word operator second)
+        (let operand = resolved cfg (now («register_table» .entry)) (now («predicate_table» .entry)) in
+        r ≡ operationWith operand word operator second)
         ⌝ }
 {
-    let destination = named_for(fields::rd(word), cfg, register_table, predicate_table);
-    let first = named_for(fields::rs1(word), cfg, register_table, predicate_table);
+    let destination = resolve(fields::rd(word), cfg, register_table, predicate_table);
+    let first = resolve(fields::rs1(word), cfg, register_table, predicate_table);
     Decoded::Operation(OperationWord {
         operator,
         destination,
@@ -38,21 +39,21 @@ pub(crate) fn operation<'a>(
 }
 
 // A load writes to rd; its address is in rs1.
-pub(crate) fn load<'a>(
+pub(crate) fn load_with<'a>(
     width: Width,
     signed: bool,
     word: u32,
     cfg: u32,
-    register_table: &'a [u16; 16],
-    predicate_table: &'a [u16; 16],
+    register_table: &'a [u16; ENTRIES],
+    predicate_table: &'a [u16; ENTRIES],
 ) -> Decoded
     ensures { λ r. ⌜
-        (let name = named cfg (now («register_table» .entry)) (now («predicate_table» .entry)) in
-        r ≡ loadWith name word width signed)
+        (let operand = resolved cfg (now («register_table» .entry)) (now («predicate_table» .entry)) in
+        r ≡ loadWith operand word width signed)
         ⌝ }
 {
-    let destination = named_for(fields::rd(word), cfg, register_table, predicate_table);
-    let address = named_for(fields::rs1(word), cfg, register_table, predicate_table);
+    let destination = resolve(fields::rd(word), cfg, register_table, predicate_table);
+    let address = resolve(fields::rs1(word), cfg, register_table, predicate_table);
     let offset = fields::immediate(word);
     Decoded::Load(LoadWord {
         destination,
@@ -64,20 +65,20 @@ pub(crate) fn load<'a>(
 }
 
 // A store takes its data from rs2; its address is in rs1.
-pub(crate) fn store<'a>(
+pub(crate) fn store_with<'a>(
     width: Width,
     word: u32,
     cfg: u32,
-    register_table: &'a [u16; 16],
-    predicate_table: &'a [u16; 16],
+    register_table: &'a [u16; ENTRIES],
+    predicate_table: &'a [u16; ENTRIES],
 ) -> Decoded
     ensures { λ r. ⌜
-        (let name = named cfg (now («register_table» .entry)) (now («predicate_table» .entry)) in
-        r ≡ storeWith name word width)
+        (let operand = resolved cfg (now («register_table» .entry)) (now («predicate_table» .entry)) in
+        r ≡ storeWith operand word width)
         ⌝ }
 {
-    let data = named_for(fields::rs2(word), cfg, register_table, predicate_table);
-    let address = named_for(fields::rs1(word), cfg, register_table, predicate_table);
+    let data = resolve(fields::rs2(word), cfg, register_table, predicate_table);
+    let address = resolve(fields::rs1(word), cfg, register_table, predicate_table);
     let offset = fields::store_immediate(word);
     Decoded::Store(StoreWord {
         data,
@@ -88,15 +89,15 @@ pub(crate) fn store<'a>(
 }
 
 // A word of 16 bits is C.MV or unknown. With a second register of 0 it would be C.JR.
-pub(crate) fn compressed<'a>(
+pub(crate) fn compressed_move<'a>(
     word: u32,
     cfg: u32,
-    register_table: &'a [u16; 16],
-    predicate_table: &'a [u16; 16],
+    register_table: &'a [u16; ENTRIES],
+    predicate_table: &'a [u16; ENTRIES],
 ) -> Decoded
     ensures { λ r. ⌜
-        (let name = named cfg (now («register_table» .entry)) (now («predicate_table» .entry)) in
-        r ≡ compressedMove name word)
+        (let operand = resolved cfg (now («register_table» .entry)) (now («predicate_table» .entry)) in
+        r ≡ compressedMove operand word)
         ⌝ }
 {
     if word % 4 != 0b10 {
@@ -109,8 +110,8 @@ pub(crate) fn compressed<'a>(
     if rs2 == 0 {
         return Decoded::Unknown;
     }
-    let destination = named_for(fields::rd(word), cfg, register_table, predicate_table);
-    let source = named_for(rs2, cfg, register_table, predicate_table);
+    let destination = resolve(fields::rd(word), cfg, register_table, predicate_table);
+    let source = resolve(rs2, cfg, register_table, predicate_table);
     Decoded::Move(MoveWord {
         destination,
         source,

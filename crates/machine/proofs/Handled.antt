@@ -20,8 +20,8 @@ use Rattle.machine.specs.Run.{System, contextOf, positionOf, withContext
 use Rattle.machine.proofs.Shapes.{parts}
 
 -- a machine in shape stands below VL, which is at most 64
-pub standing-within : (m : Machine) → inShape m ≡ true → Within (m .state .vl) (positionOf m)
-standing-within m h =
+pub position-within : (m : Machine) → inShape m ≡ true → Within (m .state .vl) (positionOf m)
+position-within m h =
     let b = bounds (m .state) (parts m h .state) in
     record { source = b .source-high; destination = b .destination-high }
 

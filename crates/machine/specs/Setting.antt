@@ -7,7 +7,7 @@ use Rattle.answers.specs.declared.Answer.the-variants.{Done}
 use Rattle.answers.specs.Verdict.{valid}
 use Rattle.registers.specs.Written.{written}
 use Rattle.tables.specs.Entry.{bit0Clear}
-use Rattle.state_word.specs.State.{mvlInRange, cfgInRange, withVl, withMvl, withCfg, fields, cut, goodWord}
+use Rattle.state_word.specs.State.{mvlInRange, cfgInRange, withVl, withMvl, withCfg, ofWord, cut, goodWord}
 use Rattle.machine.specs.declared.Machine.{Machine}
 use Rattle.machine.specs.declared.Reply.{Reply}
 use Rattle.machine.specs.Calls.{done, guarded}
@@ -47,4 +47,4 @@ setPc m pc = guarded m true (Done 0) (done (withPc m pc) 0)
 
 -- MVL, then VL as min(VL, MVL), then offsets, then CFG
 unfoldable pub setStateWord : Machine → ℕ → Reply
-setStateWord m word = guarded m true (valid (goodWord word)) (done (withState m (cut (fields word))) 0)
+setStateWord m word = guarded m true (valid (goodWord word)) (done (withState m (cut (ofWord word))) 0)

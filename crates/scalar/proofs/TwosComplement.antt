@@ -1,4 +1,4 @@
--- Laws of the two's complement reading, over the width where a function for each width cites them.
+-- Laws of two's complement, over the width where a function for each width cites them.
 use mathlib.Core.Path.{_≡_, refl, sym, ap, _∙_}
 use mathlib.Core.Bool.{Bool, true, false}
 use Prim.Native.Nat.{ℕ, suc, _-_, _%_, _^_, zero-le}
@@ -34,30 +34,30 @@ pub negative : (n : ℕ) → leZ (pos 0) (toZ w64 n) ≡ false → toZ w64 ((2 ^
 negative n e = let h = ltb-false n (2 ^ 63) (sym (below-half n) ∙ e) in toZ-pos w64 (omega arith)
 
 -- a number that bits stand for is in range, also when it is shifted right
-pub reading-fits : {w : Width} {n : ℕ} {z : ℤ} → Fits w n → z ≡ toZ w n → SFits w z
-reading-fits h e = rw e (sfits-toZ h)
+pub signed-fits : {w : Width} {n : ℕ} {z : ℤ} → Fits w n → z ≡ toZ w n → SFits w z
+signed-fits h e = rw e (sfits-toZ h)
 
 pub shift-fits : {w : Width} {z : ℤ} (m : ℕ) → SFits w z → SFits w (shrZ z m)
 shift-fits {w} {z} m h = sfits-le (mag-shr z m) h
 
--- a number in range of a width keeps its reading in 64 bits
-module _ {w : Width} {z : ℤ} (narrow : T (leb (hbits w) 63)) (h : SFits w z) where
+-- a number in range of a width keeps its signed value in 64 bits
+module _ {w : Width} {z : ℤ} (below : T (leb (hbits w) 63)) (h : SFits w z) where
   pub widened-fits : SFits w64 (toZ w (ofZ w z))
-  widened-fits = rw (toZ-ofZ h) (sfits-widen narrow h)
+  widened-fits = rw (toZ-ofZ h) (sfits-widen below h)
 
   pub widened : ofZ w64 (toZ w64 (ofZ w64 (toZ w (ofZ w z)))) ≡ ofZ w64 z
-  widened = rw (toZ-ofZ h, toZ-ofZ (sfits-widen narrow h))
+  widened = rw (toZ-ofZ h, toZ-ofZ (sfits-widen below h))
 
 -- among them the one that the low bits of a value stand for
-module _ (w : Width) (narrow : T (leb (hbits w) 63)) (value : ℕ) {z : ℤ} (e : z ≡ toZ w (value % 2 ^ bits w)) where
+module _ (w : Width) (below : T (leb (hbits w) 63)) (value : ℕ) {z : ℤ} (e : z ≡ toZ w (value % 2 ^ bits w)) where
   pub low-fits : SFits w z
-  low-fits = reading-fits (fits-wrap w value) e
+  low-fits = signed-fits (fits-wrap w value) e
 
   pub extended-fits : SFits w64 (toZ w (ofZ w z))
-  extended-fits = widened-fits narrow low-fits
+  extended-fits = widened-fits below low-fits
 
   pub extended : ofZ w64 (toZ w64 (ofZ w64 (toZ w (ofZ w z)))) ≡ ofZ w64 (toZ w (value % 2 ^ bits w))
-  extended = widened narrow low-fits ∙ ap (ofZ w64) e
+  extended = widened below low-fits ∙ ap (ofZ w64) e
 
 -- the word of a number in its range is extended to the number's 64 bits
 pub word-extended : {z : ℤ} → SFits w32 z → signExtended Word (ofZ w32 z) ≡ ofZ w64 z

@@ -3,6 +3,7 @@ ghost use Prim.Native.Nat.{_+_, _≤_};
 ghost use mathlib.Core.Path.{_≡_};
 ghost use mathlib.Core.Bool.{true};
 ghost use Rattle.search.specs.Search.{entryAnswers, heldEntry, NoneAnswers};
+use tables::ENTRIES;
 use tables::enabled::Range;
 
 pub enum Table {
@@ -33,7 +34,7 @@ pub fn entry_answers(table: Table, key: u8, word: u16) -> bool
 }
 
 // Whether none of the eight entries from an index on answers: one comparison of all eight.
-fn none_of_eight(table: Table, entries: &[u16; 16], key: u8, first: usize) -> bool
+fn none_of_eight(table: Table, entries: &[u16; ENTRIES], key: u8, first: usize) -> bool
     requires { ⌜ first ≤ 8 ⌝ }
     ensures { λ r. ⌜ (r ≡ true → NoneAnswers table (now (entries .entry)) key first (first + 8)) ⌝ }
 {
@@ -47,7 +48,7 @@ fn none_of_eight(table: Table, entries: &[u16; 16], key: u8, first: usize) -> bo
 }
 
 // An index from which on no entry below `end` answers. Most tables have few entries, so that most searches end here.
-fn reach(table: Table, entries: &[u16; 16], key: u8, end: usize) -> usize
+fn reach(table: Table, entries: &[u16; ENTRIES], key: u8, end: usize) -> usize
     requires { ⌜ end ≤ 16 ⌝ }
     ensures { λ r. ⌜ (r ≤ end) × NoneAnswers table (now (entries .entry)) key r end ⌝ }
 {
@@ -63,7 +64,7 @@ fn reach(table: Table, entries: &[u16; 16], key: u8, end: usize) -> usize
 }
 
 // The entry of an enabled range that holds for a key.
-pub fn held_entry(table: Table, entries: &[u16; 16], range: Range, key: u8) -> Held
+pub fn held_entry(table: Table, entries: &[u16; ENTRIES], range: Range, key: u8) -> Held
     requires { ⌜ range .end ≤ 16 ⌝ }
     ensures { λ r. ⌜ r ≡ heldEntry table (now (entries .entry)) range key ⌝ }
 {

@@ -22,7 +22,8 @@ module _ (word n : ℕ) (s : System) {a v : ℕ} where
 
   -- by the state as it was read, and the word as it was decoded
   pub leaves-run :
-      (read : State) (d : Decoded) (o : Outcome Answer Context) → inShape (s .machine) ≡ true → read ≡ s .machine .state →
+      (read : State) (d : Decoded) (o : Outcome Answer Context) → inShape (s .machine) ≡ true →
+      read ≡ s .machine .state →
       d ≡ decoded word (read .cfg) (s .machine .«register_table») (s .machine .«predicate_table») →
       o ≡ handled (read .vl) d n
       (context (s .machine .registers) (s .memory)

@@ -4,17 +4,17 @@ ghost use Rattle.machine.specs.Reading.{readRegister, readRegisterEntry, readPr
 ghost use Rattle.simplev_arrays.specs.Layout.{machineIn};
 ghost use Rattle.simplev_arrays.specs.Leaves.{Replies};
 use answers::Answer;
+use registers::REGISTERS;
 use simplev_arrays::CFG;
 use simplev_arrays::CONTROL_WORDS;
 use simplev_arrays::MVL;
 use simplev_arrays::PC;
 use simplev_arrays::VL;
+use simplev_arrays::entry_at;
 use simplev_arrays::guarded;
 use simplev_arrays::register_at;
 use simplev_arrays::state_of;
-use registers::REGISTERS;
 use tables::ENTRIES;
-use tables::entry::entry_at;
 
 #[no_mangle]
 pub extern "C" fn simplev_read_vl<'a>(
@@ -183,8 +183,7 @@ pub extern "C" fn simplev_read_register_entry<'a>(
         Replies (readRegisterEntry m index) r (now (value .exit)) m)
         ⌝ }
 {
-    let entries = *register_table;
-    let entry = entry_at(entries, index);
+    let entry = entry_at(register_table, index);
     guarded(
         registers,
         control,
@@ -211,8 +210,7 @@ pub extern "C" fn simplev_read_predicate_entry<'a>(
         Replies (readPredicateEntry m index) r (now (value .exit)) m)
         ⌝ }
 {
-    let entries = *predicate_table;
-    let entry = entry_at(entries, index);
+    let entry = entry_at(predicate_table, index);
     guarded(
         registers,
         control,

@@ -6,6 +6,7 @@ ghost use Rattle.simplev_arrays.specs.Layout.{machineIn};
 ghost use Rattle.simplev_arrays.specs.Leaves.{Leaves};
 use answers::Answer;
 use decode::decode;
+use registers::REGISTERS;
 use simplev_arrays::CFG;
 use simplev_arrays::CONTROL_WORDS;
 use simplev_arrays::MVL;
@@ -14,7 +15,6 @@ use simplev_arrays::VL;
 use simplev_arrays::in_shape;
 use simplev_arrays::state_of;
 use simplev_arrays::write_answer;
-use registers::REGISTERS;
 use tables::ENTRIES;
 use walk_operations::position::Position;
 

@@ -1,22 +1,32 @@
 // The calls that set one thing, in place. Refusals come in the order 6, 8, then the call's own.
+ghost use Prim.Native.Nat.{_<_};
+ghost use mathlib.Core.Path.{_≡_};
+ghost use lib.ListN.{set};
 ghost use Rattle.machine.specs.Setting.{setVl, setVlImmediate, setMvl, setCfg, setStateWord, setPc};
 ghost use Rattle.machine.specs.Setting.{setRegister, setRegisterEntry, setPredicateEntry};
 ghost use Rattle.simplev_arrays.specs.Layout.{machineIn};
 ghost use Rattle.simplev_arrays.specs.Leaves.{Replies};
 use answers::Answer;
 use answers::valid;
+use machine::Machine;
+use registers::REGISTERS;
 use simplev_arrays::CONTROL_WORDS;
 use simplev_arrays::PC;
 use simplev_arrays::guarded;
 use simplev_arrays::setting::set_control;
 use simplev_arrays::setting::set_vl;
 use simplev_arrays::state_of;
-use machine::Machine;
-use registers::REGISTERS;
 use state_word::State;
 use state_word::good_word;
 use tables::ENTRIES;
-use tables::entry::with_entry;
+
+// Replaces an entry that exists.
+fn put_entry(entries: &mut [u16; ENTRIES], index: u32, entry: u16)
+    requires { ⌜ index < 16 ⌝ }
+    ensures { λ r. ⌜ now (entries .exit) ≡ set (now (entries .entry)) index entry ⌝ }
+{
+    entries[index as usize] = entry;
+}
 
 // Plain form: n from 1.
 #[no_mangle]
@@ -261,8 +271,7 @@ pub extern "C" fn simplev_set_register_entry<'a>(
     if answer != 0 {
         return answer;
     }
-    let old = *register_table;
-    *register_table = with_entry(old, index, entry);
+    put_entry(register_table, index, entry);
     answer
 }
 
@@ -296,7 +305,6 @@ pub extern "C" fn simplev_set_predicate_entry<'a>(
     if answer != 0 {
         return answer;
     }
-    let old = *predicate_table;
-    *predicate_table = with_entry(old, index, entry);
+    put_entry(predicate_table, index, entry);
     answer
 }

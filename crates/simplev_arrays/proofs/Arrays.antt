@@ -1,15 +1,16 @@
 -- Machines and arrays determine each other, and words in range are their low bits.
-use Prim.Native.Nat.{ℕ, _≤_, _%_, _^_}
+use Prim.Native.Nat.{ℕ, _≤_, _<_, _%_, _^_}
 use mathlib.Core.Path.{_≡_, refl, _∙_}
 use mathlib.Core.Bool.{true}
 use mathlib.Core.List.{List, [], _∷_}
-use lib.ListN.{length, getD}
+use lib.ListN.{getD}
 use native.Mathlib.Nat.{mod-eq-of-lt}
 use native.Mathlib.Omega.{arith}
+use borrow.Author.Tests.{lt-ltb, le-ltb}
 use Rattle.state_word.specs.declared.State.{State}
 use Rattle.state_word.specs.State.{stateInShape}
 use Rattle.state_word.proofs.States.{bounds}
-use Rattle.simplev_arrays.specs.Layout.{stateOf, lowBits, ControlBack, Faithful}
+use Rattle.simplev_arrays.specs.Layout.{lowBits, elementAt, ControlBack, Faithful}
 
 control-back : (control : List ℕ) → ControlBack control
 control-back (a ∷ b ∷ c ∷ d ∷ e ∷ f ∷ []) h = refl
@@ -39,3 +40,13 @@ all-bits {s} e shaped =
       low-word (s .source) (omega arith),
       low-word (s .destination) (omega arith),
     )
+
+-- a read of an array of a size, by its test of the index
+module _ (size : ℕ) (elements : List ℕ) (index : ℕ) where
+  pub element-missing : size ≤ index → 0 ≡ elementAt size elements index
+  unfolding elementAt
+  element-missing h = rw (le-ltb index size h)
+
+  pub element-there : index < size → getD elements index 0 ≡ elementAt size elements index
+  unfolding elementAt
+  element-there h = rw (lt-ltb index size h)

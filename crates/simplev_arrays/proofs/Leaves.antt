@@ -2,6 +2,7 @@
 use Prim.Native.Nat.{ℕ}
 use mathlib.Core.Path.{_≡_, refl, sym, _∙_, ap}
 use mathlib.Core.Bool.{Bool, true, false, cond}
+use native.Mathlib.Omega.{arith}
 use borrow.Author.Tests.{eqb-false}
 use Rattle.answers.specs.declared.Answer.{Answer}
 use Rattle.answers.specs.Answer.{accepts}
@@ -40,6 +41,20 @@ module _
           Replies (cond t (done after result) (refuse m a)) n v after
       by a true e r = record { says = r .says; machine = refl }
       by a false e r = absurd (eqb-false _ _ e (sym (r .says .number) ∙ z))
+
+-- what was set exists
+pub set-exists :
+    (m : Machine) (exists : Bool) (own : Answer) (result : ℕ) {n v : ℕ} →
+    Replies (guarded m exists own (done m result)) n v m → n ≡ 0 → exists ≡ true
+unfolding accepts verdict
+set-exists m exists own result {n} {v} guard z = by (inShape m) exists guard
+  where
+    by :
+        (s p : Bool) →
+        Replies (cond (accepts (verdict s p own)) (done m result) (refuse m (verdict s p own))) n v m → p ≡ true
+    by s true r = refl
+    by true false r = absurd (omega (arith, z, r .says .number))
+    by false false r = absurd (omega (arith, z, r .says .number))
 
 -- What a call replies matters only on a machine in shape, at an entry or register that exists.
 module _ (m : Machine) (exists : Bool) (own : Answer) (a b : Reply) where

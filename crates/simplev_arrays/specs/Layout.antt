@@ -29,9 +29,15 @@ lowBits s = record {
   destination = s .destination % 2 ^ 32;
 }
 
--- a register, and 0 where there is none
-unfoldable pub registerAt : List ℕ → ℕ → ℕ
-registerAt registers index = cond (ltb index 128) (getD registers index 0) 0
+-- an element of an array of a size, and 0 where there is none
+unfoldable pub elementAt : ℕ → List ℕ → ℕ → ℕ
+elementAt size elements index = cond (ltb index size) (getD elements index 0) 0
+
+abbrev pub registerAt : List ℕ → ℕ → ℕ
+registerAt registers index = elementAt 128 registers index
+
+abbrev pub entryAt : List ℕ → ℕ → ℕ
+entryAt entries index = elementAt 16 entries index
 
 -- the machine that four arrays hold
 abbrev pub machineOf : List ℕ → List ℕ → List ℕ → List ℕ → Machine

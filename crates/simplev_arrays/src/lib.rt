@@ -4,7 +4,7 @@ ghost use mathlib.Core.Bool.{true};
 ghost use lib.ListN.{length};
 ghost use Rattle.machine.specs.Shape.{inShape, Sized};
 ghost use Rattle.machine.specs.Calls.{done, guarded};
-ghost use Rattle.simplev_arrays.specs.Layout.{stateOf, lowBits, registerAt, machineIn};
+ghost use Rattle.simplev_arrays.specs.Layout.{stateOf, lowBits, registerAt, entryAt, machineIn};
 ghost use Rattle.simplev_arrays.specs.Leaves.{Says, Replies};
 use answers::Answer;
 use answers::verdict;
@@ -98,6 +98,16 @@ pub fn register_at(registers: &[u64; REGISTERS], index: u32) -> u64
         return 0;
     }
     registers[index as usize]
+}
+
+// An entry, and 0 where there is none. It is read in place: a copy of the table would cost more than the call.
+pub fn entry_at(entries: &[u16; ENTRIES], index: u32) -> u16
+    ensures { λ r. ⌜ r ≡ entryAt (now (entries .entry)) index ⌝ }
+{
+    if 16 <= index {
+        return 0;
+    }
+    entries[index as usize]
 }
 
 // MVL, VL, CFG and the offsets: of each the low 32 bits, which are all of a word in range.

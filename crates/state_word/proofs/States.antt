@@ -6,7 +6,7 @@ use native.Mathlib.Omega.{arith}
 use borrow.Author.Tests.{lt-ltb, le-leb, eq-eqb, leb-true, ltb-true, eqb-true}
 use Rattle.state_word.specs.declared.State.{State}
 use Rattle.bits.specs.Bits.{bits}
-use Rattle.state_word.specs.State.{stateInShape, withVl, withMvl, withCfg, fields, cut, goodWord}
+use Rattle.state_word.specs.State.{stateInShape, withVl, withMvl, withCfg, ofWord, cut, goodWord}
 use Rattle.bits.proofs.Booleans.{and-left, and-right}
 
 -- what being in shape says of the fields
@@ -87,8 +87,8 @@ module _ (s : State) (h : stateInShape s ≡ true) where
 -- what a good state word says
 pub record Good (word : ℕ) : Type 0 where
   pub top : bits 31 29 word ≡ 0
-  pub source : fields word .source < cut (fields word) .vl
-  pub destination : fields word .destination < cut (fields word) .vl
+  pub source : ofWord word .source < cut (ofWord word) .vl
+  pub destination : ofWord word .destination < cut (ofWord word) .vl
 
 pub good : (word : ℕ) → goodWord word ≡ true → Good word
 unfolding goodWord
@@ -102,11 +102,11 @@ pub is-good : (word : ℕ) → Good word → goodWord word ≡ true
 unfolding goodWord
 is-good word g = rw (eq-eqb _ _ (g .top), lt-ltb _ _ (g .source), lt-ltb _ _ (g .destination))
 
-pub word-kept : (word : ℕ) → goodWord word ≡ true → stateInShape (cut (fields word)) ≡ true
-unfolding fields
+pub word-kept : (word : ℕ) → goodWord word ≡ true → stateInShape (cut (ofWord word)) ≡ true
+unfolding ofWord
 word-kept word h =
     let g = good word h in
-    in-shape (cut (fields word)) (record {
+    in-shape (cut (ofWord word)) (record {
       mvl-low = omega arith;
       mvl-high = omega arith;
       vl-low = omega arith;

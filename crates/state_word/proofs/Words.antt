@@ -5,7 +5,7 @@ use mathlib.Core.Bool.{true}
 use native.Mathlib.Omega.{arith}
 use Rattle.state_word.specs.declared.State.{State}
 use Rattle.bits.specs.Bits.{bits}
-use Rattle.state_word.specs.State.{stateInShape, fields, wordOf, cut, goodWord}
+use Rattle.state_word.specs.State.{stateInShape, ofWord, wordOf, cut, goodWord}
 use Rattle.state_word.proofs.States.{bounds, good, is-good, word-kept}
 
 -- one field of a word at a time, which is what linear arithmetic takes
@@ -52,9 +52,9 @@ module _ (s : State) (h : stateInShape s ≡ true) where
       let q : wordOf s / 16777216 ≡ s .cfg = omega (arith, packed) in
       omega arith
 
-  pub fields-back : fields (wordOf s) ≡ s
-  unfolding fields
-  fields-back = rw (mvl-back, vl-back, source-back, destination-back, cfg-back)
+  pub of-word-back : ofWord (wordOf s) ≡ s
+  unfolding ofWord
+  of-word-back = rw (mvl-back, vl-back, source-back, destination-back, cfg-back)
 
   top-back : bits 31 29 (wordOf s) ≡ 0
   top-back = let b = bounds s h in omega (arith, packed)
@@ -70,8 +70,8 @@ module _ (s : State) (h : stateInShape s ≡ true) where
       let b = bounds s h in
       is-good (wordOf s) (record {
         top = top-back;
-        source = rw fields-back (omega arith);
-        destination = rw fields-back (omega arith);
+        source = rw of-word-back (omega arith);
+        destination = rw of-word-back (omega arith);
       })
 
 -- bits 31..12 of a packed word
@@ -88,10 +88,10 @@ word-above :
 word-above q r s t p1 p2 p3 top = omega arith
 
 -- An accepted state word: above VL, the word that is read back has the same bits.
-pub rest-back : (word : ℕ) → goodWord word ≡ true → bits 31 12 (wordOf (cut (fields word))) ≡ bits 31 12 word
-unfolding fields
+pub rest-back : (word : ℕ) → goodWord word ≡ true → bits 31 12 (wordOf (cut (ofWord word))) ≡ bits 31 12 word
+unfolding ofWord
 rest-back word h =
-    let s = cut (fields word) in
+    let s = cut (ofWord word) in
     let k = word-kept word h in
     packed-above _ _ _ _ _ _ (mvl-fits s k) (vl-fits s k) (omega arith) (omega arith) (omega arith) (packed s k)
     ∙ sym (word-above (word / 4096) _ _ _ (omega arith) (omega arith) (omega arith) (good word h .top))

@@ -36,8 +36,8 @@ withOffsets s source destination =
     record { mvl = s .mvl; vl = s .vl; cfg = s .cfg; source = source; destination = destination }
 
 -- bits 5..0 MVL - 1, 11..6 VL - 1, 17..12 source offset, 23..18 destination offset, 28..24 CFG
-unfoldable pub fields : ℕ → State
-fields word = record {
+unfoldable pub ofWord : ℕ → State
+ofWord word = record {
   mvl = bits 5 0 word + 1;
   vl = bits 11 6 word + 1;
   cfg = bits 28 24 word;
@@ -63,5 +63,5 @@ cut s = record {
 -- bits 31..29 zero, and both offsets below the cut VL
 unfoldable pub goodWord : ℕ → Bool
 goodWord word =
-    eqb (bits 31 29 word) 0 && ltb (cut (fields word) .source) (cut (fields word) .vl)
-    && ltb (cut (fields word) .destination) (cut (fields word) .vl)
+    eqb (bits 31 29 word) 0 && ltb (cut (ofWord word) .source) (cut (ofWord word) .vl)
+    && ltb (cut (ofWord word) .destination) (cut (ofWord word) .vl)

@@ -1,7 +1,7 @@
 // The five fields of the state word, and the word itself.
 ghost use mathlib.Core.Path.{_≡_};
 ghost use Prim.Native.Nat.{_-_, min};
-ghost use Rattle.state_word.specs.State.{fields, wordOf, cut, goodWord, withVl, withMvl, stateInShape};
+ghost use Rattle.state_word.specs.State.{ofWord, wordOf, cut, goodWord, withVl, withMvl, stateInShape};
 
 #[repr(C)]
 pub struct State {
@@ -26,7 +26,7 @@ fn least(n: u64, most: u32) -> u32
 
 impl State {
     pub fn of_word(word: u32) -> State
-        ensures { λ r. ⌜ r ≡ fields word ⌝ }
+        ensures { λ r. ⌜ r ≡ ofWord word ⌝ }
     {
         State {
             mvl: word % 64 + 1,

@@ -7,8 +7,8 @@ use machine::Machine;
 use machine::Reply;
 use memory::store::Stored;
 use memory::store::store;
-use stream_records::record::Record;
 use scalar::width::Width;
+use stream_records::record::Record;
 
 fn store_answered(stored: Stored, address: u64) -> Answer
     ensures { λ r. ⌜ r ≡ storeAnswered stored address ⌝ }

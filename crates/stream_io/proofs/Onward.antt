@@ -15,7 +15,8 @@ use Rattle.stream_feed.specs.declared.feed.Text.{Text}
 use Rattle.stream_feed.specs.declared.feed.Text.the-variants.{Written}
 use Rattle.stream_feed.specs.declared.feed.Fed as declared
 use Rattle.stream_feed.specs.Stream.{Stream, Fed, fed, lastText, finished, freshStream, output}
-use Rattle.stream_feed.specs.Feed.{acceptable, streamOf, feedResult, fedInto, textOut, writtenIf, lastRoom, finishedInto}
+use Rattle.stream_feed.specs.Feed.{acceptable, streamOf, feedResult, fedInto}
+use Rattle.stream_feed.specs.Feed.{textOut, writtenIf, lastRoom, finishedInto}
 use Rattle.stream_feed.proofs.Fed.{fed-append}
 use Rattle.stream_feed.proofs.Texts.{Wrote, written-if, fed-text, fed-stream}
 use Rattle.stream_io.specs.Output.{Next, Holds, Sends, Whole, Reached}

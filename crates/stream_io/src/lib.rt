@@ -9,10 +9,10 @@ ghost use Rattle.stream_io.specs.Output.{Next, Holds, Sends, Whole, Reac
 use libc::STDIN_FILENO;
 use libc::STDOUT_FILENO;
 use machine::Machine;
-use stream_records::reader::Reader;
 use stream_feed::feed::Text;
 use stream_feed::feed::feed;
 use stream_feed::finish::finish;
+use stream_records::reader::Reader;
 
 pub enum Sent {
     // How many bytes of the output are written.

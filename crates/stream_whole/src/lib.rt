@@ -3,11 +3,11 @@ ghost use mathlib.Core.Path.{_≡_};
 ghost use Rattle.stream_feed.specs.Feed.{textOut};
 ghost use Rattle.stream_whole.specs.Whole.{runInto};
 use machine::Machine;
-use stream_records::reader::Reader;
 use stream_feed::feed::Text;
 use stream_feed::feed::feed;
 use stream_feed::finish::LAST_ROOM;
 use stream_feed::finish::finish;
+use stream_records::reader::Reader;
 
 // Runs a stream on a fresh machine with 4,096 zero bytes of memory, and writes what it prints.
 // It is refused, and nothing is written, where `out` might be too short.

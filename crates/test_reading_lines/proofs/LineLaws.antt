@@ -22,18 +22,18 @@ use Rattle.test_reading_lines.proofs.WordLaws.{word-length}
 use Rattle.test_reading_lines.proofs.PlaceLaws.{tested}
 
 -- no row has more than two
-narrow : List (List ℕ) → Bool
-narrow [] = true
-narrow (l ∷ rows) = leb (length l) 2 && narrow rows
+short-rows : List (List ℕ) → Bool
+short-rows [] = true
+short-rows (l ∷ rows) = leb (length l) 2 && short-rows rows
 
-at-most-two : (rows : List (List ℕ)) (i : ℕ) → narrow rows ≡ true → length (getD rows i []) ≤ 2
-unfolding narrow
+at-most-two : (rows : List (List ℕ)) (i : ℕ) → short-rows rows ≡ true → length (getD rows i []) ≤ 2
+unfolding short-rows
 at-most-two [] i e = omega arith
-at-most-two (l ∷ rows) zero e = leb-true (length l) 2 (and-eq-true-iff (leb (length l) 2) (narrow rows) .0 e .0)
-at-most-two (l ∷ rows) (suc i) e = at-most-two rows i (and-eq-true-iff (leb (length l) 2) (narrow rows) .0 e .1)
+at-most-two (l ∷ rows) zero e = leb-true (length l) 2 (and-eq-true-iff (leb (length l) 2) (short-rows rows) .0 e .0)
+at-most-two (l ∷ rows) (suc i) e = at-most-two rows i (and-eq-true-iff (leb (length l) 2) (short-rows rows) .0 e .1)
 
 few : (call : ℕ) → length (limitsOf call) ≤ 2
-unfolding limitsOf forms narrow
+unfolding limitsOf forms short-rows
 few call = at-most-two (map (λ (f : Form). f .limits) forms) call refl
 
 -- the second argument, and the words after the arguments

@@ -1,9 +1,9 @@
 // The calls made on a machine. Each function passes on the reply that it is given where the call is not one of its own.
 use machine::Machine;
 use machine::Reply;
-use test_reading_lines::call as c;
 use state_word::State;
 use tables::entry::with_entry;
+use test_reading_lines::call as c;
 
 // A line's numbers were read within these bounds.
 fn low16(n: u64) -> u16 {

@@ -1,9 +1,9 @@
 use compute::compute;
 use decode::decoded::Decoded;
-use decode::decoded::Named;
 use decode::decoded::Operand;
 use decode::decoded::OperationWord;
-use decode::decoded::Second;
+use decode::decoded::ResolvedOperand;
+use decode::decoded::SecondOperand;
 
 pub enum Execution {
     Result(u64),
@@ -16,23 +16,23 @@ enum Value {
     Unknown,
 }
 
-fn is_plain(named: Named, number: u8) -> bool {
-    let operand = named.operand;
-    match operand {
+fn is_plain(operand: ResolvedOperand, number: u8) -> bool {
+    let register = operand.operand;
+    match register {
         Operand::Plain(n) => n == number,
         _ => false,
     }
 }
 
-fn second_value(second: Second, x7: u64) -> Value {
+fn second_value(second: SecondOperand, x7: u64) -> Value {
     match second {
-        Second::Register(named) => {
-            if is_plain(named, 7) {
+        SecondOperand::Register(operand) => {
+            if is_plain(operand, 7) {
                 return Value::Known(x7);
             }
             Value::Unknown
         }
-        Second::Immediate(value) => Value::Known(value),
+        SecondOperand::Immediate(value) => Value::Known(value),
     }
 }
 

@@ -14,7 +14,7 @@ use Rattle.scalar.specs.Width.{bytesOf}
 use Rattle.walk_accesses.specs.declared.loading.LoadPlan.{LoadPlan}
 use Rattle.walk_accesses.specs.declared.storing.StorePlan.{StorePlan}
 use Rattle.walk_operations.specs.Context.{Context}
-use Rattle.walk_accesses.specs.Loading.{addressAt, fetched, loadElement}
+use Rattle.walk_accesses.specs.Loading.{addressAt, loadValue, loadElement}
 use Rattle.walk_accesses.specs.Storing.{storeElement}
 use Rattle.walk_transfers.specs.Transfer.{moved, outside}
 
@@ -29,14 +29,14 @@ module _ (p : LoadPlan) (c : Context) (i j address : ℕ)
     (at : address ≡ addressAt (p .sides .source .place) (p .offset) (p .width) (c .registers) i)
   where
     pub load-value :
-        (value : ℕ) → fetched (c .memory) address (p .width) (p .signed) ≡ load.Value value →
+        (value : ℕ) → loadValue (c .memory) address (p .width) (p .signed) ≡ load.Value value →
         loadElement p c i j
         ≡ moved (written (c .registers) (registerAt (p .sides .destination .place) j) value) (c .memory)
     unfolding loadElement
     load-value value e = rw (← at, e)
 
     pub load-outside :
-        fetched (c .memory) address (p .width) (p .signed) ≡ load.Outside → loadElement p c i j ≡ outside address
+        loadValue (c .memory) address (p .width) (p .signed) ≡ load.Outside → loadElement p c i j ≡ outside address
     unfolding loadElement
     load-outside e = rw (← at, e)
 

@@ -37,8 +37,8 @@ widened signed width (Value value) = Value (extended signed width value)
 widened signed width Outside = Outside
 
 -- what a load of some width brings from an address
-unfoldable pub fetched : List ℕ → ℕ → Width → Bool → Loaded
-fetched memory address width signed = widened signed width (loaded memory address (bytesOf width))
+unfoldable pub loadValue : List ℕ → ℕ → Width → Bool → Loaded
+loadValue memory address width signed = widened signed width (loaded memory address (bytesOf width))
 
 abbrev pub loadedTo : LoadPlan → Context → ℕ → ℕ → Loaded → Transferred
 loadedTo p c address j (Value value) =
@@ -49,7 +49,7 @@ loadedTo p c address j Outside = outside address
 unfoldable pub loadElement : LoadPlan → Context → ℕ → ℕ → Transferred
 loadElement p c i j =
     let address = addressAt (p .sides .source .place) (p .offset) (p .width) (c .registers) i in
-    loadedTo p c address j (fetched (c .memory) address (p .width) (p .signed))
+    loadedTo p c address j (loadValue (c .memory) address (p .width) (p .signed))
 
 unfoldable pub loadUnit : LoadPlan → Context → Outcome Answer Context
 loadUnit p c = transferUnit (p .sides) 4 (loadElement p) c

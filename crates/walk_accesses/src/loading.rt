@@ -3,20 +3,21 @@ ghost use mathlib.Core.Path.{_≡_};
 ghost use Prim.Native.Nat.{_<_};
 ghost use Rattle.walk_operands.specs.Place.{registerAt};
 ghost use Rattle.walk_pausable.specs.Walk.{walk};
-ghost use Rattle.walk_operations.specs.Context.{context, left, pausing};
-ghost use Rattle.walk_accesses.specs.Loading.{addressAt, fetched, loadUnit};
+ghost use Rattle.walk_operations.specs.Context.{context, outcomeOf, pausing};
+ghost use Rattle.walk_accesses.specs.Loading.{addressAt, loadValue, loadUnit};
 ghost use Rattle.walk_transfers.specs.SidesReady.{SidesReady, Within};
 use answers::Answer;
 use memory::load::Loaded;
 use memory::load::load;
-use walk_operands::place::Place;
-use walk_pairs::Pair;
+use registers::REGISTERS;
 use registers::write_within;
 use scalar::signed::sign_extend;
 use scalar::width::Width;
-use walk_transfers::sides::Sides;
+use walk_operands::place::Place;
 use walk_operations::position::Position;
 use walk_operations::position::Ran;
+use walk_pairs::Pair;
+use walk_transfers::sides::Sides;
 
 pub struct LoadPlan {
     pub sides: Sides,
@@ -30,7 +31,7 @@ pub(crate) fn address_at(
     place: Place,
     offset: u64,
     width: Width,
-    registers: &[u64; 128],
+    registers: &[u64; REGISTERS],
     i: u32,
 ) -> u64
     requires { ⌜ (registerAt place i < 128) × (i < 64) ⌝ }
@@ -44,8 +45,8 @@ pub(crate) fn address_at(
 }
 
 // The number of the bytes at an address, as 64 bits.
-fn fetch_as(memory: &[u8], address: u64, width: Width, signed: bool) -> Loaded
-    ensures { λ r. ⌜ r ≡ fetched (now (memory .entry)) address width signed ⌝ }
+fn load_value_as(memory: &[u8], address: u64, width: Width, signed: bool) -> Loaded
+    ensures { λ r. ⌜ r ≡ loadValue (now (memory .entry)) address width signed ⌝ }
 {
     match load(memory, address, width) {
         Loaded::Value(value) => {
@@ -59,24 +60,24 @@ fn fetch_as(memory: &[u8], address: u64, width: Width, signed: bool) -> Loaded
 }
 
 // The same, with the width told apart once: each case is compiled for its own width.
-fn fetch(memory: &[u8], address: u64, width: Width, signed: bool) -> Loaded
-    ensures { λ r. ⌜ r ≡ fetched (now (memory .entry)) address width signed ⌝ }
+fn load_value(memory: &[u8], address: u64, width: Width, signed: bool) -> Loaded
+    ensures { λ r. ⌜ r ≡ loadValue (now (memory .entry)) address width signed ⌝ }
 {
     match width {
-        Width::Byte => fetch_as(memory, address, Width::Byte, signed),
-        Width::Half => fetch_as(memory, address, Width::Half, signed),
-        Width::Word => fetch_as(memory, address, Width::Word, signed),
-        Width::Double => fetch_as(memory, address, Width::Double, signed),
+        Width::Byte => load_value_as(memory, address, Width::Byte, signed),
+        Width::Half => load_value_as(memory, address, Width::Half, signed),
+        Width::Word => load_value_as(memory, address, Width::Word, signed),
+        Width::Double => load_value_as(memory, address, Width::Double, signed),
     }
 }
 
 impl LoadPlan {
     // One element.
-    pub fn unit(self, position: Position, registers: &mut [u64; 128], memory: &[u8]) -> Ran
+    pub fn unit(self, position: Position, registers: &mut [u64; REGISTERS], memory: &[u8]) -> Ran
         requires { ⌜ SidesReady (self .sides) × Within (self .sides .vl) position ⌝ }
         ensures { λ r. ⌜
             (let start = context (now (registers .entry)) (now (memory .entry)) position in
-            left r (now (registers .exit)) (now (memory .entry)) ≡ loadUnit self start)
+            outcomeOf r (now (registers .exit)) (now (memory .entry)) ≡ loadUnit self start)
             ⌝ }
     {
         let sides = self.sides;
@@ -85,7 +86,7 @@ impl LoadPlan {
             Pair::Found(i, j) => {
                 let width = self.width;
                 let address = address_at(sides.source.place, self.offset, width, registers, i);
-                match fetch(memory, address, width, self.signed) {
+                match load_value(memory, address, width, self.signed) {
                     Loaded::Value(value) => {
                         let to = sides.destination.place.at(j);
                         write_within(registers, to, value);
@@ -102,29 +103,29 @@ impl LoadPlan {
         self,
         position: Position,
         allowance: u16,
-        registers: &mut [u64; 128],
+        registers: &mut [u64; REGISTERS],
         memory: &[u8],
     ) -> Ran
         requires { ⌜ SidesReady (self .sides) × Within (self .sides .vl) position ⌝ }
         ensures { λ r. ⌜
             (let start = context (now (registers .entry)) (now (memory .entry)) position in
-            left r (now (registers .exit)) (now (memory .entry)) ≡ walk pausing (loadUnit self) allowance start)
+            outcomeOf r (now (registers .exit)) (now (memory .entry)) ≡ walk pausing (loadUnit self) allowance start)
             ⌝ }
     {
-        let mut now = position;
-        let mut left = allowance;
-        while 0 < left {
-            let ran = self.unit(now, registers, memory);
+        let mut current = position;
+        let mut remaining = allowance;
+        while 0 < remaining {
+            let ran = self.unit(current, registers, memory);
             let answer = ran.answer;
             if !answer.pauses() {
                 return ran;
             }
-            now = ran.position;
-            left -= 1;
+            current = ran.position;
+            remaining -= 1;
         }
         Ran {
             answer: Answer::Paused,
-            position: now,
+            position: current,
         }
     }
 }

@@ -3,18 +3,19 @@ ghost use mathlib.Core.Path.{_≡_};
 ghost use Rattle.memory.specs.Transfer.{storeAnswer, stored};
 ghost use Rattle.scalar.specs.Width.{bytesOf};
 ghost use Rattle.walk_pausable.specs.Walk.{walk};
-ghost use Rattle.walk_operations.specs.Context.{context, left, pausing};
+ghost use Rattle.walk_operations.specs.Context.{context, outcomeOf, pausing};
 ghost use Rattle.walk_transfers.specs.SidesReady.{SidesReady, Within};
 ghost use Rattle.walk_accesses.specs.Storing.{storeUnit};
 use crate::loading::address_at;
 use answers::Answer;
 use memory::store::Stored;
 use memory::store::store;
-use walk_pairs::Pair;
+use registers::REGISTERS;
 use scalar::width::Width;
-use walk_transfers::sides::Sides;
 use walk_operations::position::Position;
 use walk_operations::position::Ran;
+use walk_pairs::Pair;
+use walk_transfers::sides::Sides;
 
 pub struct StorePlan {
     pub sides: Sides,
@@ -37,11 +38,11 @@ fn put(memory: &mut [u8], address: u64, width: Width, value: u64) -> Stored
 
 impl StorePlan {
     // One element.
-    pub fn unit(self, position: Position, registers: &[u64; 128], memory: &mut [u8]) -> Ran
+    pub fn unit(self, position: Position, registers: &[u64; REGISTERS], memory: &mut [u8]) -> Ran
         requires { ⌜ SidesReady (self .sides) × Within (self .sides .vl) position ⌝ }
         ensures { λ r. ⌜
             (let start = context (now (registers .entry)) (now (memory .entry)) position in
-            left r (now (registers .entry)) (now (memory .exit)) ≡ storeUnit self start)
+            outcomeOf r (now (registers .entry)) (now (memory .exit)) ≡ storeUnit self start)
             ⌝ }
     {
         let sides = self.sides;
@@ -64,29 +65,29 @@ impl StorePlan {
         self,
         position: Position,
         allowance: u16,
-        registers: &[u64; 128],
+        registers: &[u64; REGISTERS],
         memory: &mut [u8],
     ) -> Ran
         requires { ⌜ SidesReady (self .sides) × Within (self .sides .vl) position ⌝ }
         ensures { λ r. ⌜
             (let start = context (now (registers .entry)) (now (memory .entry)) position in
-            left r (now (registers .entry)) (now (memory .exit)) ≡ walk pausing (storeUnit self) allowance start)
+            outcomeOf r (now (registers .entry)) (now (memory .exit)) ≡ walk pausing (storeUnit self) allowance start)
             ⌝ }
     {
-        let mut now = position;
-        let mut left = allowance;
-        while 0 < left {
-            let ran = self.unit(now, registers, memory);
+        let mut current = position;
+        let mut remaining = allowance;
+        while 0 < remaining {
+            let ran = self.unit(current, registers, memory);
             let answer = ran.answer;
             if !answer.pauses() {
                 return ran;
             }
-            now = ran.position;
-            left -= 1;
+            current = ran.position;
+            remaining -= 1;
         }
         Ran {
             answer: Answer::Paused,
-            position: now,
+            position: current,
         }
     }
 }

@@ -4,18 +4,19 @@ ghost use mathlib.Core.Bool.{true};
 ghost use Prim.Native.Nat.{_≤_};
 ghost use Rattle.answers.specs.Answer.{accepts};
 ghost use Rattle.walk_plans.specs.Operands.{checked};
-ghost use Rattle.walk_operations.specs.Context.{context, left};
+ghost use Rattle.walk_operations.specs.Context.{context, outcomeOf};
 ghost use Rattle.walk_transfers.specs.SidesReady.{Within};
 ghost use Rattle.walk_handler.specs.Unit.{handled};
 use answers::Answer;
 use decode::decoded::Decoded;
+use registers::REGISTERS;
+use walk_operations::position::Position;
+use walk_operations::position::Ran;
 use walk_plans::checks::checked;
 use walk_plans::planning::load_plan;
 use walk_plans::planning::move_plan;
 use walk_plans::planning::operation_plan;
 use walk_plans::planning::store_plan;
-use walk_operations::position::Position;
-use walk_operations::position::Ran;
 
 // The plan of a word whose operands are served, walked up to the allowance.
 fn walk_word(
@@ -23,13 +24,13 @@ fn walk_word(
     vl: u32,
     position: Position,
     allowance: u16,
-    registers: &mut [u64; 128],
+    registers: &mut [u64; REGISTERS],
     memory: &mut [u8],
 ) -> Ran
     requires { ⌜ (vl ≤ 64) × Within vl position × (accepts (checked vl word) ≡ true) ⌝ }
     ensures { λ r. ⌜
         (let start = context (now (registers .entry)) (now (memory .entry)) position in
-        left r (now (registers .exit)) (now (memory .exit)) ≡ handled vl word allowance start)
+        outcomeOf r (now (registers .exit)) (now (memory .exit)) ≡ handled vl word allowance start)
         ⌝ }
 {
     match word {
@@ -63,13 +64,13 @@ pub fn run(
     vl: u32,
     position: Position,
     allowance: u16,
-    registers: &mut [u64; 128],
+    registers: &mut [u64; REGISTERS],
     memory: &mut [u8],
 ) -> Ran
     requires { ⌜ (vl ≤ 64) × Within vl position ⌝ }
     ensures { λ r. ⌜
         (let start = context (now (registers .entry)) (now (memory .entry)) position in
-        left r (now (registers .exit)) (now (memory .exit)) ≡ handled vl word allowance start)
+        outcomeOf r (now (registers .exit)) (now (memory .exit)) ≡ handled vl word allowance start)
         ⌝ }
 {
     let answer = checked(word, vl);

@@ -4,7 +4,7 @@ use mathlib.Core.Bool.{Bool, true, false, cond}
 use lib.Dec.{ltb}
 use Rattle.decode.specs.declared.decoded.Operand.{Operand}
 use Rattle.decode.specs.declared.decoded.Operand.the-variants.{Plain, Scalar, Vector}
-use Rattle.decode.specs.declared.decoded.Named.{Named}
+use Rattle.decode.specs.declared.decoded.ResolvedOperand.{ResolvedOperand}
 use Rattle.walk_operands.specs.declared.place.Place.{Place}
 
 abbrev pub placeBy : Operand → Place
@@ -13,7 +13,7 @@ placeBy (Scalar r) = record { register = r; vector = false }
 placeBy (Vector r) = record { register = r; vector = true }
 
 -- the real register of an operand, or for a plain one its own
-abbrev pub placeOf : Named → Place
+abbrev pub placeOf : ResolvedOperand → Place
 placeOf n = placeBy (n .operand)
 
 -- A vector operand uses real register + i.

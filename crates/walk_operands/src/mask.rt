@@ -2,6 +2,7 @@
 ghost use mathlib.Core.Path.{_≡_};
 ghost use Prim.Native.Nat.{_<_};
 ghost use Rattle.walk_operands.specs.Mask.{maskBy, isOn};
+use registers::REGISTERS;
 use tables::entry::PredicateEntry;
 
 // Bit i of `on` is 1 where position i is on.
@@ -11,7 +12,7 @@ pub struct Mask {
 }
 
 // The mask by the word of the predicate entry that holds for an operand; 0, the empty entry, stands for none.
-pub fn mask_by(predicate: u16, registers: &[u64; 128]) -> Mask
+pub fn mask_by(predicate: u16, registers: &[u64; REGISTERS]) -> Mask
     ensures { λ r. ⌜ r ≡ maskBy (now (registers .entry)) predicate ⌝ }
 {
     if predicate == 0 {

@@ -2,8 +2,8 @@
 ghost use mathlib.Core.Path.{_≡_};
 ghost use Prim.Native.Nat.{_<_};
 ghost use Rattle.walk_operands.specs.Place.{placeOf, registerAt, fits};
-use decode::decoded::Named;
 use decode::decoded::Operand;
+use decode::decoded::ResolvedOperand;
 
 // A vector has a register for each position, from the one given on.
 pub struct Place {
@@ -12,7 +12,7 @@ pub struct Place {
 }
 
 // The place of an operand: its real register, or for a plain one its own.
-pub fn place_of(n: Named) -> Place
+pub fn place_of(n: ResolvedOperand) -> Place
     ensures { λ r. ⌜ r ≡ placeOf n ⌝ }
 {
     let operand = n.operand;

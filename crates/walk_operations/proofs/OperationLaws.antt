@@ -14,16 +14,17 @@ use Rattle.walk_operands.specs.Mask.{isOn}
 use Rattle.walk_operands.proofs.Fits.{fits-at}
 use Rattle.walk_operations.specs.declared.position.Position.{Position}
 use Rattle.walk_operations.specs.declared.position.Ran.{Ran}
-use Rattle.walk_operations.specs.declared.operation.Second.{Second}
-use Rattle.walk_operations.specs.declared.operation.Second.the-variants.{Register}
+use Rattle.walk_operations.specs.declared.operation.SecondPlace.{SecondPlace}
+use Rattle.walk_operations.specs.declared.operation.SecondPlace.the-variants.{Register}
 use Rattle.walk_operations.specs.declared.operation.OperationPlan.{OperationPlan}
 use Rattle.walk_operations.specs.Context.{WithAnyMemory, ended}
-use Rattle.walk_operations.specs.Operation.{elementOf, registersAfter, goOn, afterOn, positionAfter, operationUnit}
+use Rattle.walk_operations.specs.Operation.{elementOf, registersAfter, goOn, afterOn}
+use Rattle.walk_operations.specs.Operation.{positionAfter, operationUnit}
 use Rattle.walk_operations.specs.OperationReady.{SecondFits}
 
 -- a second operand in registers has one for each position
 pub register-at :
-    (second : Second) (p : Place) (vl i : ℕ) → second ≡ Register p → SecondFits vl second → i < vl →
+    (second : SecondPlace) (p : Place) (vl i : ℕ) → second ≡ Register p → SecondFits vl second → i < vl →
     registerAt p i < 128
 register-at second p vl i e f h = fits-at vl p i h (rw e at f)
 

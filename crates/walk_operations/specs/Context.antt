@@ -20,8 +20,8 @@ abbrev pub context : List ℕ → List ℕ → Position → Context
 context registers memory position = record { registers = registers; memory = memory; position = position }
 
 -- the offsets as given
-abbrev pub standing : Position → ℕ → ℕ → Position
-standing p source destination = record { pc = p .pc; source = source; destination = destination }
+abbrev pub atOffsets : Position → ℕ → ℕ → Position
+atOffsets p source destination = record { pc = p .pc; source = source; destination = destination }
 
 -- answer 1 is the pause
 pub pause-pauses : pauses Paused ≡ true
@@ -32,13 +32,13 @@ abbrev pub pausing : Pausing Answer
 pausing = record { paused = pauses; pause = Paused; pauses = pause-pauses }
 
 -- how a walk ran, with the registers and the memory that it left
-abbrev pub left : Ran → List ℕ → List ℕ → Outcome Answer Context
-left ran registers memory = outcome (ran .answer) (context registers memory (ran .position))
+abbrev pub outcomeOf : Ran → List ℕ → List ℕ → Outcome Answer Context
+outcomeOf ran registers memory = outcome (ran .answer) (context registers memory (ran .position))
 
 -- work that doesn't touch memory: whatever the memory, it ran so and left these registers
 abbrev pub WithAnyMemory : (Context → Outcome Answer Context) → List ℕ → Position → Ran → List ℕ → Type 0
 WithAnyMemory work registers position ran after =
-    (memory : List ℕ) → left ran after memory ≡ work (context registers memory position)
+    (memory : List ℕ) → outcomeOf ran after memory ≡ work (context registers memory position)
 
 -- At the end both offsets are 0 and the program counter has gone up by the bytes of the instruction.
 abbrev pub ended : ℕ → Position → Ran
@@ -47,8 +47,8 @@ ended bytes p =
 
 -- an instruction that goes on
 abbrev pub onward : Position → ℕ → ℕ → Ran
-onward p source destination = record { answer = Paused; position = standing p source destination }
+onward p source destination = record { answer = Paused; position = atOffsets p source destination }
 
 -- a fault leaves the offsets at the pair
 abbrev pub faulted : ℕ → Position → ℕ → ℕ → Ran
-faulted address p source destination = record { answer = Fault address; position = standing p source destination }
+faulted address p source destination = record { answer = Fault address; position = atOffsets p source destination }

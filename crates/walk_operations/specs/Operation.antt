@@ -12,12 +12,12 @@ use Rattle.walk_operands.specs.Mask.{isOn}
 use Rattle.walk_pausable.specs.Outcome.{Outcome}
 use Rattle.walk_operations.specs.declared.position.Position.{Position}
 use Rattle.walk_operations.specs.declared.position.Ran.{Ran}
-use Rattle.walk_operations.specs.declared.operation.Second.{Second}
-use Rattle.walk_operations.specs.declared.operation.Second.the-variants.{Register, Immediate}
+use Rattle.walk_operations.specs.declared.operation.SecondPlace.{SecondPlace}
+use Rattle.walk_operations.specs.declared.operation.SecondPlace.the-variants.{Register, Immediate}
 use Rattle.walk_operations.specs.declared.operation.OperationPlan.{OperationPlan}
-use Rattle.walk_operations.specs.Context.{Context, left, ended, onward}
+use Rattle.walk_operations.specs.Context.{Context, outcomeOf, ended, onward}
 
-abbrev pub secondAt : Second → List ℕ → ℕ → ℕ
+abbrev pub secondAt : SecondPlace → List ℕ → ℕ → ℕ
 secondAt (Register p) registers i = getD registers (registerAt p i) 0
 secondAt (Immediate value) registers i = value
 
@@ -54,4 +54,4 @@ positionAfter p position i =
 unfoldable pub operationUnit : OperationPlan → Context → Outcome Answer Context
 operationUnit p c =
     let i = c .position .destination in
-    left (positionAfter p (c .position) i) (registersAfter p (c .registers) i) (c .memory)
+    outcomeOf (positionAfter p (c .position) i) (registersAfter p (c .registers) i) (c .memory)

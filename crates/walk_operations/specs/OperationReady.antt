@@ -3,11 +3,11 @@ use Prim.Native.Nat.{ℕ, _≤_}
 use mathlib.Core.Bool.{true}
 use mathlib.Core.Path.{_≡_}
 use Rattle.walk_operands.specs.Place.{fits}
-use Rattle.walk_operations.specs.declared.operation.Second.{Second}
-use Rattle.walk_operations.specs.declared.operation.Second.the-variants.{Register, Immediate}
+use Rattle.walk_operations.specs.declared.operation.SecondPlace.{SecondPlace}
+use Rattle.walk_operations.specs.declared.operation.SecondPlace.the-variants.{Register, Immediate}
 use Rattle.walk_operations.specs.declared.operation.OperationPlan.{OperationPlan}
 
-abbrev pub SecondFits : ℕ → Second → Type 0
+abbrev pub SecondFits : ℕ → SecondPlace → Type 0
 SecondFits vl (Register p) = fits vl p ≡ true
 SecondFits vl (Immediate value) = Unit {0}
 

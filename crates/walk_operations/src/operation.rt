@@ -9,12 +9,13 @@ use crate::position::Position;
 use crate::position::Ran;
 use answers::Answer;
 use compute::compute;
-use walk_operands::mask::Mask;
-use walk_operands::place::Place;
+use registers::REGISTERS;
 use registers::write_within;
 use scalar::operator::Operator;
+use walk_operands::mask::Mask;
+use walk_operands::place::Place;
 
-pub enum Second {
+pub enum SecondPlace {
     Register(Place),
     Immediate(u64),
 }
@@ -25,17 +26,17 @@ pub struct OperationPlan {
     pub destination: Place,
     pub mask: Mask,
     pub first: Place,
-    pub second: Second,
+    pub second: SecondPlace,
 }
 
 // The second operand at a position.
-fn second_at(second: Second, registers: &[u64; 128], vl: u32, i: u32) -> u64
+fn second_at(second: SecondPlace, registers: &[u64; REGISTERS], vl: u32, i: u32) -> u64
     requires { ⌜ SecondFits vl second × (i < vl) ⌝ }
     ensures { λ r. ⌜ r ≡ secondAt second (now (registers .entry)) i ⌝ }
 {
     match second {
-        Second::Register(place) => registers[place.at(i)],
-        Second::Immediate(value) => value,
+        SecondPlace::Register(place) => registers[place.at(i)],
+        SecondPlace::Immediate(value) => value,
     }
 }
 
@@ -53,7 +54,7 @@ fn go_on(vl: u32, position: Position, i: u32) -> Ran
 
 impl OperationPlan {
     // What a position computes.
-    fn element(self, registers: &[u64; 128], i: u32) -> u64
+    fn element(self, registers: &[u64; REGISTERS], i: u32) -> u64
         requires { ⌜ OperationReady self × (i < self .vl) ⌝ }
         ensures { λ r. ⌜ r ≡ elementOf self (now (registers .entry)) i ⌝ }
     {
@@ -65,7 +66,7 @@ impl OperationPlan {
     }
 
     // One position.
-    pub fn unit(self, position: Position, registers: &mut [u64; 128]) -> Ran
+    pub fn unit(self, position: Position, registers: &mut [u64; REGISTERS]) -> Ran
         requires { ⌜ OperationReady self × (position .destination < self .vl) ⌝ }
         ensures { λ r. ⌜
             WithAnyMemory (operationUnit self)
@@ -89,27 +90,27 @@ impl OperationPlan {
     }
 
     // At most as many positions as allowed.
-    pub fn walk(self, position: Position, allowance: u16, registers: &mut [u64; 128]) -> Ran
+    pub fn walk(self, position: Position, allowance: u16, registers: &mut [u64; REGISTERS]) -> Ran
         requires { ⌜ OperationReady self × (position .destination < self .vl) ⌝ }
         ensures { λ r. ⌜
             WithAnyMemory (walk pausing (operationUnit self) allowance)
             (now (registers .entry)) position r (now (registers .exit))
             ⌝ }
     {
-        let mut now = position;
-        let mut left = allowance;
-        while 0 < left {
-            let ran = self.unit(now, registers);
+        let mut current = position;
+        let mut remaining = allowance;
+        while 0 < remaining {
+            let ran = self.unit(current, registers);
             let answer = ran.answer;
             if !answer.pauses() {
                 return ran;
             }
-            now = ran.position;
-            left -= 1;
+            current = ran.position;
+            remaining -= 1;
         }
         Ran {
             answer: Answer::Paused,
-            position: now,
+            position: current,
         }
     }
 }

@@ -4,7 +4,7 @@ use mathlib.Core.Path.{_≡_, refl}
 use mathlib.Core.List.{List, [], _∷_}
 use Rattle.walk_pausable.specs.Outcome.{Pausing, Outcome, outcome, Ended}
 use Rattle.walk_pausable.specs.Walk.{walk}
-use Rattle.walk_pausable.specs.Call.{Prepared, refused, ready, Further, begun, called, listed}
+use Rattle.walk_pausable.specs.Call.{Prepared, refused, ready, NextCall, begun, called, listed}
 use Rattle.walk_pausable.proofs.Pause.{ended-stays}
 
 module _ {A S P : Type 0} (answers : Pausing A) (prepare : S → Prepared A P) (unit : P → S → Outcome A S)
@@ -20,12 +20,12 @@ module _ {A S P : Type 0} (answers : Pausing A) (prepare : S → Prepared A P) (
 
 module _ {A S H : Type 0} (answers : Pausing A) (change : H → S → S) (call : ℕ → S → Outcome A S) where
   -- what a list has left after a pause: the next change, and the calls from there
-  abbrev pub resumed : Further H → List (Further H) → S → Outcome A S
+  abbrev pub resumed : NextCall H → List (NextCall H) → S → Outcome A S
   resumed f fs t = listed answers change call (f .allowance) fs (change (f .change) t)
 
   -- any answer but a pause ends the list
   pub listed-ended :
-      (n : ℕ) (fs : List (Further H)) (s : S) → Ended answers (call n s) → listed answers change call n fs s ≡ call n s
+      (n : ℕ) (fs : List (NextCall H)) (s : S) → Ended answers (call n s) → listed answers change call n fs s ≡ call n s
   unfolding listed
   listed-ended n [] s e = refl
   listed-ended n (f ∷ fs) s e = ended-stays answers (call n s) (resumed f fs) e

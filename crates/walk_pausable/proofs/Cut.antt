@@ -4,7 +4,7 @@ use mathlib.Core.Path.{_≡_, refl, sym, _∙_}
 use mathlib.Core.List.{List, [], _∷_}
 use Rattle.walk_pausable.specs.Outcome.{Pausing, Outcome, Paused, ifPaused}
 use Rattle.walk_pausable.specs.Walk.{walk}
-use Rattle.walk_pausable.specs.Call.{Prepared, refused, ready, Further, called, listed, total}
+use Rattle.walk_pausable.specs.Call.{Prepared, refused, ready, NextCall, called, listed, total}
 use Rattle.walk_pausable.specs.Cut.{ReadyFor, Cuttable, CutLaw}
 use Rattle.walk_pausable.proofs.Pause.{same-next}
 use Rattle.walk_pausable.proofs.Walk.{walk-add}
@@ -17,7 +17,7 @@ module _ {A S P H : Type 0} {answers : Pausing A} {prepare : S → Prepared A P}
     abbrev call : ℕ → S → Outcome A S
     call = called answers prepare unit
 
-    abbrev cutCall : ℕ → List (Further H) → S → Outcome A S
+    abbrev cutCall : ℕ → List (NextCall H) → S → Outcome A S
     cutCall = listed answers change call
 
     abbrev At : P → S → Type 0
@@ -36,7 +36,7 @@ module _ {A S P H : Type 0} {answers : Pausing A} {prepare : S → Prepared A P}
         ∙ rw (← is-walk a k)
         (same-next answers (call a s) (walk answers (unit p) b) (call b) (λ e. sym (is-walk b (call-lasts a s k e))))
 
-    cut-ready : {p : P} (n : ℕ) (fs : List (Further H)) (s : S) → At p s → cutCall n fs s ≡ call (total n fs) s
+    cut-ready : {p : P} (n : ℕ) (fs : List (NextCall H)) (s : S) → At p s → cutCall n fs s ≡ call (total n fs) s
     unfolding listed
     cut-ready n [] s k = refl
     cut-ready {p} n (f ∷ fs) s k =
@@ -47,7 +47,7 @@ module _ {A S P H : Type 0} {answers : Pausing A} {prepare : S → Prepared A P}
         ∙ sym (call-add n (total (f .allowance) fs) s k)
 
     cut-refused :
-        {a : A} (n : ℕ) (fs : List (Further H)) (s : S) → prepare s ≡ refused a →
+        {a : A} (n : ℕ) (fs : List (NextCall H)) (s : S) → prepare s ≡ refused a →
         cutCall n fs s ≡ call (total n fs) s
     cut-refused {a} n fs s e =
         let same = called-refused answers prepare unit n s e in

@@ -4,7 +4,7 @@ use mathlib.Core.Path.{_≡_, refl}
 use mathlib.Core.List.{List, [], _∷_}
 use Rattle.walk_pausable.specs.Outcome.{Pausing, Outcome, Paused}
 use Rattle.walk_pausable.specs.Walk.{walk}
-use Rattle.walk_pausable.specs.Call.{Prepared, refused, ready, Further, begun, called, listed}
+use Rattle.walk_pausable.specs.Call.{Prepared, refused, ready, NextCall, begun, called, listed}
 use Rattle.walk_pausable.specs.Invariant.{Keeps, PauseKeeps}
 use Rattle.walk_pausable.proofs.Pause.{by-pause}
 use Rattle.walk_pausable.proofs.Walk.{walk-induction}
@@ -38,7 +38,7 @@ module _ {A S P : Type 0} (answers : Pausing A) (prepare : S → Prepared A P) (
 module _ {A S H : Type 0} (answers : Pausing A) (change : H → S → S) (call : ℕ → S → Outcome A S) (Q : S → Type 0) where
   pub list-keeps :
       ((n : ℕ) → Keeps Q (call n)) → ((h : H) (s : S) → Q s → Q (change h s)) →
-      (n : ℕ) (fs : List (Further H)) → Keeps Q (listed answers change call n fs)
+      (n : ℕ) (fs : List (NextCall H)) → Keeps Q (listed answers change call n fs)
   unfolding listed
   list-keeps calls changes n [] s q = calls n s q
   list-keeps calls changes n (f ∷ fs) s q =

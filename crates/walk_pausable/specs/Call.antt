@@ -12,7 +12,7 @@ pub data Prepared (A P : Type 0) : Type 0 where
   ready : P → Prepared A P
 
 -- a further call: what happens to the state before it, named by an H, and the units that it may do
-pub record Further (H : Type 0) : Type 0 where
+pub record NextCall (H : Type 0) : Type 0 where
   pub change : H
   pub allowance : ℕ
 
@@ -30,12 +30,12 @@ module _ {A S P : Type 0} where
 
 module _ {A S H : Type 0} where
   -- the first allowance; then, only where the last call paused, the change and the next allowance
-  unfoldable pub listed : Pausing A → (H → S → S) → (ℕ → S → Outcome A S) → ℕ → List (Further H) → S → Outcome A S
+  unfoldable pub listed : Pausing A → (H → S → S) → (ℕ → S → Outcome A S) → ℕ → List (NextCall H) → S → Outcome A S
   listed answers change call n [] s = call n s
   listed answers change call n (f ∷ fs) s =
       ifPaused answers (call n s) (λ t. listed answers change call (f .allowance) fs (change (f .change) t))
 
 -- the units that the calls of a list may do together
-abbrev pub total : {H : Type 0} → ℕ → List (Further H) → ℕ
+abbrev pub total : {H : Type 0} → ℕ → List (NextCall H) → ℕ
 total n [] = n
 total n (f ∷ fs) = n + total (f .allowance) fs

@@ -3,7 +3,7 @@ use Prim.Native.Nat.{ℕ}
 use mathlib.Core.Path.{_≡_}
 use mathlib.Core.List.{List}
 use Rattle.walk_pausable.specs.Outcome.{Pausing, Outcome}
-use Rattle.walk_pausable.specs.Call.{Prepared, ready, Further, called, NoRefusalPauses, listed, total}
+use Rattle.walk_pausable.specs.Call.{Prepared, ready, NextCall, called, NoRefusalPauses, listed, total}
 use Rattle.walk_pausable.specs.Invariant.{PauseKeeps}
 
 -- a state that prepares the plan p and has what Keep asks besides
@@ -23,5 +23,5 @@ module _ {A S P H : Type 0} (answers : Pausing A) (prepare : S → Prepared A P)
     -- any list of calls, each but the first made only where the one before it paused, is one call of their total
     abbrev pub CutLaw : Type 0
     CutLaw =
-        (n : ℕ) (fs : List (Further H)) (s : S) → ((p : P) → prepare s ≡ ready p → Keep p s) →
+        (n : ℕ) (fs : List (NextCall H)) (s : S) → ((p : P) → prepare s ≡ ready p → Keep p s) →
         listed answers change (called answers prepare unit) n fs s ≡ called answers prepare unit (total n fs) s

@@ -5,11 +5,11 @@ use mathlib.Core.Bool.{Bool, true, false, _&&_}
 use mathlib.Core.List.{[], _∷_}
 use Rattle.bits.specs.Lists.{all}
 use Rattle.bits.proofs.Booleans.{and-true}
-use Rattle.decode.specs.declared.decoded.Named.{Named}
+use Rattle.decode.specs.declared.decoded.ResolvedOperand.{ResolvedOperand}
 use Rattle.walk_plans.specs.Operands.{defaultWidth, fitting, checkedOperands}
 
-module _ (a b : Named) where
-  again : (test : Named → Bool) → all test (a ∷ b ∷ b ∷ []) ≡ all test (a ∷ b ∷ [])
+module _ (a b : ResolvedOperand) where
+  again : (test : ResolvedOperand → Bool) → all test (a ∷ b ∷ b ∷ []) ≡ all test (a ∷ b ∷ [])
   unfolding all
   again test = by (test a) (test b)
     where
@@ -22,7 +22,9 @@ module _ (a b : Named) where
   unfolding checkedOperands
   checked-again vl = rw (again defaultWidth, again (fitting vl))
 
-pub all-three : (test : Named → Bool) (a b c : Named) → (test a && test b && test c) ≡ all test (a ∷ b ∷ c ∷ [])
+pub all-three :
+    (test : ResolvedOperand → Bool) (a b c : ResolvedOperand) →
+    (test a && test b && test c) ≡ all test (a ∷ b ∷ c ∷ [])
 unfolding all
 all-three test a b c = by (test a) (test b) (test c)
   where

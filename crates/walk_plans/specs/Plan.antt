@@ -2,9 +2,9 @@
 use Prim.Native.Nat.{ℕ}
 use mathlib.Core.Bool.{Bool, true, not, _&&_}
 use mathlib.Core.List.{List}
-use Rattle.decode.specs.declared.decoded.Named.{Named}
-use Rattle.decode.specs.declared.decoded.Second as word
-use Rattle.decode.specs.declared.decoded.Second.the-variants as second
+use Rattle.decode.specs.declared.decoded.ResolvedOperand.{ResolvedOperand}
+use Rattle.decode.specs.declared.decoded.SecondOperand as word
+use Rattle.decode.specs.declared.decoded.SecondOperand.the-variants as second
 use Rattle.decode.specs.declared.decoded.OperationWord.{OperationWord}
 use Rattle.decode.specs.declared.decoded.MoveWord.{MoveWord}
 use Rattle.decode.specs.declared.decoded.LoadWord.{LoadWord}
@@ -12,31 +12,31 @@ use Rattle.decode.specs.declared.decoded.StoreWord.{StoreWord}
 use Rattle.walk_operands.specs.Place.{placeOf}
 use Rattle.walk_operands.specs.Mask.{maskBy}
 use Rattle.walk_pairs.specs.declared.Side.{Side}
-use Rattle.walk_operations.specs.declared.operation.Second.{Second}
-use Rattle.walk_operations.specs.declared.operation.Second.the-variants.{Register, Immediate}
+use Rattle.walk_operations.specs.declared.operation.SecondPlace.{SecondPlace}
+use Rattle.walk_operations.specs.declared.operation.SecondPlace.the-variants.{Register, Immediate}
 use Rattle.walk_operations.specs.declared.operation.OperationPlan.{OperationPlan}
 use Rattle.walk_transfers.specs.declared.sides.Sides.{Sides}
 use Rattle.walk_accesses.specs.declared.loading.LoadPlan.{LoadPlan}
 use Rattle.walk_accesses.specs.declared.storing.StorePlan.{StorePlan}
 
-abbrev pub isVector : Named → Bool
+abbrev pub isVector : ResolvedOperand → Bool
 isVector n = placeOf n .vector
 
-abbrev pub secondPlan : word.Second → Second
+abbrev pub secondPlan : word.SecondOperand → SecondPlace
 secondPlan (second.Register n) = Register (placeOf n)
 secondPlan (second.Immediate value) = Immediate value
 
 -- the registers when the call starts
 module _ (registers : List ℕ) where
-  abbrev pub side : Bool → Named → Side
-  side walks n = record { place = placeOf n; walks = walks; mask = maskBy registers (n .predicate) }
+  abbrev pub sideOf : Bool → ResolvedOperand → Side
+  sideOf walks n = record { place = placeOf n; walks = walks; mask = maskBy registers (n .predicate) }
 
   -- A vector side walks; an address side walks always.
-  abbrev pub valueSide : Named → Side
-  valueSide n = side (isVector n) n
+  abbrev pub valueSide : ResolvedOperand → Side
+  valueSide n = sideOf (isVector n) n
 
-  abbrev pub addressSide : Named → Side
-  addressSide n = side true n
+  abbrev pub addressSide : ResolvedOperand → Side
+  addressSide n = sideOf true n
 
 module _ (vl : ℕ) (registers : List ℕ) where
   -- only the destination's mask counts

@@ -4,23 +4,28 @@ ghost use mathlib.Core.List.{[], _∷_};
 ghost use Rattle.walk_plans.specs.Operands.{defaultWidth, fitting, checkedOperands, checked};
 use answers::Answer;
 use decode::decoded::Decoded;
-use decode::decoded::Named;
-use decode::decoded::Second;
+use decode::decoded::ResolvedOperand;
+use decode::decoded::SecondOperand;
 use walk_operands::place::place_of;
 
-fn default_width(n: Named) -> bool
+fn default_width(n: ResolvedOperand) -> bool
     ensures { λ r. ⌜ r ≡ defaultWidth n ⌝ }
 {
     n.width == 0
 }
 
-fn fitting(n: Named, vl: u32) -> bool
+fn fitting(n: ResolvedOperand, vl: u32) -> bool
     ensures { λ r. ⌜ r ≡ fitting vl n ⌝ }
 {
     place_of(n).fits(vl)
 }
 
-fn checked_operands(first: Named, second: Named, third: Named, vl: u32) -> Answer
+fn checked_operands(
+    first: ResolvedOperand,
+    second: ResolvedOperand,
+    third: ResolvedOperand,
+    vl: u32,
+) -> Answer
     ensures { λ r. ⌜ r ≡ checkedOperands vl (first ∷ second ∷ third ∷ []) ⌝ }
 {
     if !(default_width(first) & default_width(second) & default_width(third)) {
@@ -48,8 +53,8 @@ pub fn checked(word: Decoded, vl: u32) -> Answer
             let second = w.first;
             let third = w.second;
             match third {
-                Second::Register(n) => checked_operands(first, second, n, vl),
-                Second::Immediate(_) => checked_operands(first, second, second, vl),
+                SecondOperand::Register(n) => checked_operands(first, second, n, vl),
+                SecondOperand::Immediate(_) => checked_operands(first, second, second, vl),
             }
         }
         Decoded::Load(w) => {

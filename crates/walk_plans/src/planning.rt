@@ -1,32 +1,34 @@
 // The plan of a word that is served: operands resolved, and masks read, once.
 ghost use mathlib.Core.Path.{_≡_};
-ghost use Rattle.walk_plans.specs.Plan.{isVector, secondPlan, operationPlan, side, movePlan, loadPlan, storePlan};
 ghost use mathlib.Core.Bool.{_||_};
-use walk_accesses::loading::LoadPlan;
-use walk_accesses::storing::StorePlan;
+ghost use Rattle.walk_plans.specs.Plan.{isVector, secondPlan, sideOf};
+ghost use Rattle.walk_plans.specs.Plan.{operationPlan, movePlan, loadPlan, storePlan};
 use decode::decoded as word;
 use decode::decoded::LoadWord;
 use decode::decoded::MoveWord;
-use decode::decoded::Named;
 use decode::decoded::OperationWord;
+use decode::decoded::ResolvedOperand;
 use decode::decoded::StoreWord;
+use registers::REGISTERS;
+use walk_accesses::loading::LoadPlan;
+use walk_accesses::storing::StorePlan;
 use walk_operands::mask::mask_by;
 use walk_operands::place::place_of;
+use walk_operations::operation::OperationPlan;
+use walk_operations::operation::SecondPlace;
 use walk_pairs::Side;
 use walk_transfers::sides::Sides;
-use walk_operations::operation::OperationPlan;
-use walk_operations::operation::Second;
 
-fn second_plan(second: word::Second) -> Second
+fn second_plan(second: word::SecondOperand) -> SecondPlace
     ensures { λ r. ⌜ r ≡ secondPlan second ⌝ }
 {
     match second {
-        word::Second::Register(n) => Second::Register(place_of(n)),
-        word::Second::Immediate(value) => Second::Immediate(value),
+        word::SecondOperand::Register(n) => SecondPlace::Register(place_of(n)),
+        word::SecondOperand::Immediate(value) => SecondPlace::Immediate(value),
     }
 }
 
-pub fn operation_plan(word: OperationWord, vl: u32, registers: &[u64; 128]) -> OperationPlan
+pub fn operation_plan(word: OperationWord, vl: u32, registers: &[u64; REGISTERS]) -> OperationPlan
     ensures { λ r. ⌜ r ≡ operationPlan vl (now (registers .entry)) word ⌝ }
 {
     let operator = word.operator;
@@ -44,8 +46,8 @@ pub fn operation_plan(word: OperationWord, vl: u32, registers: &[u64; 128]) -> O
 }
 
 // A side that walks always, as an address does, or only where its operand is a vector.
-fn side_of(n: Named, always: bool, registers: &[u64; 128]) -> Side
-    ensures { λ r. ⌜ r ≡ side (now (registers .entry)) (always || isVector n) n ⌝ }
+fn side_of(n: ResolvedOperand, always: bool, registers: &[u64; REGISTERS]) -> Side
+    ensures { λ r. ⌜ r ≡ sideOf (now (registers .entry)) (always || isVector n) n ⌝ }
 {
     let place = place_of(n);
     Side {
@@ -55,7 +57,7 @@ fn side_of(n: Named, always: bool, registers: &[u64; 128]) -> Side
     }
 }
 
-pub fn move_plan(word: MoveWord, vl: u32, registers: &[u64; 128]) -> Sides
+pub fn move_plan(word: MoveWord, vl: u32, registers: &[u64; REGISTERS]) -> Sides
     ensures { λ r. ⌜ r ≡ movePlan vl (now (registers .entry)) word ⌝ }
 {
     let source = word.source;
@@ -69,7 +71,7 @@ pub fn move_plan(word: MoveWord, vl: u32, registers: &[u64; 128]) -> Sides
     }
 }
 
-pub fn load_plan(word: LoadWord, vl: u32, registers: &[u64; 128]) -> LoadPlan
+pub fn load_plan(word: LoadWord, vl: u32, registers: &[u64; REGISTERS]) -> LoadPlan
     ensures { λ r. ⌜ r ≡ loadPlan vl (now (registers .entry)) word ⌝ }
 {
     let address = word.address;
@@ -89,7 +91,7 @@ pub fn load_plan(word: LoadWord, vl: u32, registers: &[u64; 128]) -> LoadPlan
     }
 }
 
-pub fn store_plan(word: StoreWord, vl: u32, registers: &[u64; 128]) -> StorePlan
+pub fn store_plan(word: StoreWord, vl: u32, registers: &[u64; REGISTERS]) -> StorePlan
     ensures { λ r. ⌜ r ≡ storePlan vl (now (registers .entry)) word ⌝ }
 {
     let data = word.data;

@@ -16,10 +16,10 @@ use Rattle.walk_pausable.specs.Outcome.{Outcome}
 use Rattle.walk_operations.specs.declared.position.Position.{Position}
 use Rattle.walk_operations.specs.declared.position.Ran.{Ran}
 use Rattle.walk_transfers.specs.declared.sides.Sides.{Sides}
-use Rattle.walk_operations.specs.Context.{Context, left, ended, onward, faulted}
+use Rattle.walk_operations.specs.Context.{Context, outcomeOf, ended, onward, faulted}
 use Rattle.walk_transfers.specs.SidesReady.{SidesReady, Within}
 use Rattle.walk_transfers.specs.Transfer.{Transferred, moved, outside}
-use Rattle.walk_transfers.specs.Transfer.{pairOf, afterPair, settled, atPair, transferUnit}
+use Rattle.walk_transfers.specs.Transfer.{pairOf, afterPair, afterTransfer, atPair, transferUnit}
 
 -- what is known of the pair that a unit works at
 pub record Reached (s : Sides) (i j : ℕ) : Type 0 where
@@ -69,21 +69,21 @@ after-within s bytes position i j h =
 module _ (s : Sides) (bytes : ℕ) (transfer : Context → ℕ → ℕ → Transferred) (c : Context) where
   module _ (p : Pair) (said : p ≡ pairOf s (c .position)) where
     pub unit-end :
-        p ≡ End → left (ended bytes (c .position)) (c .registers) (c .memory) ≡ transferUnit s bytes transfer c
+        p ≡ End → outcomeOf (ended bytes (c .position)) (c .registers) (c .memory) ≡ transferUnit s bytes transfer c
     unfolding transferUnit atPair
     unit-end e = rw (sym said ∙ e)
 
     module _ (i j : ℕ) (found : p ≡ Found i j) where
       pub unit-moved :
           (registers memory : List ℕ) → transfer c i j ≡ moved registers memory →
-          left (afterPair s bytes (c .position) i j) registers memory ≡ transferUnit s bytes transfer c
-      unfolding transferUnit atPair settled
+          outcomeOf (afterPair s bytes (c .position) i j) registers memory ≡ transferUnit s bytes transfer c
+      unfolding transferUnit atPair afterTransfer
       unit-moved registers memory e = rw (sym said ∙ found, e)
 
       pub unit-outside :
           (address : ℕ) → transfer c i j ≡ outside address →
-          left (faulted address (c .position) i j) (c .registers) (c .memory) ≡ transferUnit s bytes transfer c
-      unfolding transferUnit atPair settled
+          outcomeOf (faulted address (c .position) i j) (c .registers) (c .memory) ≡ transferUnit s bytes transfer c
+      unfolding transferUnit atPair afterTransfer
       unit-outside address e = rw (sym said ∙ found, e)
 
   -- a unit that pauses leaves both offsets below VL
@@ -96,10 +96,10 @@ module _ (s : Sides) (bytes : ℕ) (transfer : Context → ℕ → ℕ → Trans
       Fine : Outcome Answer Context → Type 0
       Fine o = pauses (o .answer) ≡ true → Within (s .vl) (o .state .position)
 
-      at : (i j : ℕ) (t : Transferred) → Fine (settled s bytes c i j t)
+      at : (i j : ℕ) (t : Transferred) → Fine (afterTransfer s bytes c i j t)
       at i j (moved registers memory) =
-          unfold settled in after-within s bytes (c .position) i j (omega (arith, within .source))
-      at i j (outside address) = unfold settled pauses in (λ e. absurd (true≢false (sym e)))
+          unfold afterTransfer in after-within s bytes (c .position) i j (omega (arith, within .source))
+      at i j (outside address) = unfold afterTransfer pauses in (λ e. absurd (true≢false (sym e)))
 
       by : (p : Pair) → Fine (atPair s bytes (transfer c) c p)
       by End = unfold atPair pauses in (λ e. absurd (true≢false (sym e)))

@@ -11,7 +11,7 @@ use Rattle.walk_pausable.specs.Outcome.{Outcome}
 use Rattle.walk_operations.specs.declared.position.Position.{Position}
 use Rattle.walk_operations.specs.declared.position.Ran.{Ran}
 use Rattle.walk_transfers.specs.declared.sides.Sides.{Sides}
-use Rattle.walk_operations.specs.Context.{Context, left, ended, onward, faulted}
+use Rattle.walk_operations.specs.Context.{Context, outcomeOf, ended, onward, faulted}
 
 -- the registers and the memory that an element leaves, or the address of an access that doesn't lie wholly in memory
 pub data Transferred : Type 0 where
@@ -33,14 +33,14 @@ afterPair s bytes position i j =
     (ended bytes position)
     (onward position (next (s .source) i) (next (s .destination) j))
 
-unfoldable pub settled : Sides → ℕ → Context → ℕ → ℕ → Transferred → Outcome Answer Context
-settled s bytes c i j (moved registers memory) = left (afterPair s bytes (c .position) i j) registers memory
-settled s bytes c i j (outside address) = left (faulted address (c .position) i j) (c .registers) (c .memory)
+unfoldable pub afterTransfer : Sides → ℕ → Context → ℕ → ℕ → Transferred → Outcome Answer Context
+afterTransfer s bytes c i j (moved registers memory) = outcomeOf (afterPair s bytes (c .position) i j) registers memory
+afterTransfer s bytes c i j (outside address) = outcomeOf (faulted address (c .position) i j) (c .registers) (c .memory)
 
 -- if either side reaches VL the instruction ends with nothing done
 unfoldable pub atPair : Sides → ℕ → (ℕ → ℕ → Transferred) → Context → Pair → Outcome Answer Context
-atPair s bytes transfer c End = left (ended bytes (c .position)) (c .registers) (c .memory)
-atPair s bytes transfer c (Found i j) = settled s bytes c i j (transfer i j)
+atPair s bytes transfer c End = outcomeOf (ended bytes (c .position)) (c .registers) (c .memory)
+atPair s bytes transfer c (Found i j) = afterTransfer s bytes c i j (transfer i j)
 
 -- one unit, of an instruction of some bytes
 unfoldable pub transferUnit : Sides → ℕ → (Context → ℕ → ℕ → Transferred) → Context → Outcome Answer Context

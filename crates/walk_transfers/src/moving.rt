@@ -6,14 +6,15 @@ ghost use Rattle.walk_transfers.specs.Moving.{moveUnit};
 ghost use Rattle.walk_transfers.specs.SidesReady.{SidesReady, Within};
 use crate::sides::Sides;
 use answers::Answer;
-use walk_pairs::Pair;
+use registers::REGISTERS;
 use registers::write_within;
 use walk_operations::position::Position;
 use walk_operations::position::Ran;
+use walk_pairs::Pair;
 
 impl Sides {
     // One element.
-    pub fn move_unit(self, position: Position, registers: &mut [u64; 128]) -> Ran
+    pub fn move_unit(self, position: Position, registers: &mut [u64; REGISTERS]) -> Ran
         requires { ⌜ SidesReady self × Within (self .vl) position ⌝ }
         ensures { λ r. ⌜
             WithAnyMemory (moveUnit self)
@@ -32,27 +33,32 @@ impl Sides {
     }
 
     // At most as many elements as allowed.
-    pub fn move_walk(self, position: Position, allowance: u16, registers: &mut [u64; 128]) -> Ran
+    pub fn move_walk(
+        self,
+        position: Position,
+        allowance: u16,
+        registers: &mut [u64; REGISTERS],
+    ) -> Ran
         requires { ⌜ SidesReady self × Within (self .vl) position ⌝ }
         ensures { λ r. ⌜
             WithAnyMemory (walk pausing (moveUnit self) allowance)
             (now (registers .entry)) position r (now (registers .exit))
             ⌝ }
     {
-        let mut now = position;
-        let mut left = allowance;
-        while 0 < left {
-            let ran = self.move_unit(now, registers);
+        let mut current = position;
+        let mut remaining = allowance;
+        while 0 < remaining {
+            let ran = self.move_unit(current, registers);
             let answer = ran.answer;
             if !answer.pauses() {
                 return ran;
             }
-            now = ran.position;
-            left -= 1;
+            current = ran.position;
+            remaining -= 1;
         }
         Ran {
             answer: Answer::Paused,
-            position: now,
+            position: current,
         }
     }
 }

@@ -4,11 +4,11 @@ ghost use Prim.Native.Nat.{_<_};
 ghost use Rattle.walk_transfers.specs.SidesReady.{SidesReady, Within};
 ghost use Rattle.walk_transfers.specs.Transfer.{pairOf, afterPair};
 use answers::Answer;
+use walk_operations::position::Position;
+use walk_operations::position::Ran;
 use walk_pairs::Pair;
 use walk_pairs::Side;
 use walk_pairs::find_pair;
-use walk_operations::position::Position;
-use walk_operations::position::Ran;
 
 // `single` where the instruction ends after its first element.
 pub struct Sides {

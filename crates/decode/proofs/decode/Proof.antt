@@ -1,14 +1,14 @@
 use mathlib.Core.Path.{_≡_, sym, _∙_}
 use borrow.Author.Needs.{needs}
 use Rattle.encoding.specs.declared.form.Form.{Form}
-use Rattle.decode.specs.Naming.{named}
+use Rattle.decode.specs.Resolving.{resolved}
 use Rattle.decode.specs.Decoding.{decoded, decodedAs}
 use Rattle.decode.proofs.Lengths.{short, long}
 use Rattle.decode.proofs.decode.Statement.{statement}
 use Rattle.decode.proofs.decode.Tie as tie
 
 returns : tie.Need-returns
-returns c = c .compressed .ensures ∙ sym (short _ _ _ _ (c .before .if1 .taken))
+returns c = c .compressed-move .ensures ∙ sym (short _ _ _ _ (c .before .if1 .taken))
 
 -- what the word is, by its form
 as-form :
@@ -17,7 +17,7 @@ as-form :
     let registers = args .register-table .now in
     let predicates = args .predicate-table .now in
     decoded (args .word) (args .cfg) registers predicates
-    ≡ decodedAs (named (args .cfg) registers predicates) (args .word) f
+    ≡ decodedAs (resolved (args .cfg) registers predicates) (args .word) f
 as-form c f e = long _ _ _ _ _ _ (c .before .if1 .left) (c .form-of .ensures) e
 
 returns-2 : tie.Need-returns-2
@@ -26,8 +26,8 @@ returns-2 c =
     let a = c .before .before .before .before in
     rw (
       as-form (a .before .before) _ (a .operator .given .1),
-      c .operation .ensures,
-      c .before .named-for .ensures,
+      c .operation-with .ensures,
+      c .before .resolve .ensures,
       c .before .before .rs2 .ensures,
     )
 
@@ -42,20 +42,20 @@ decode-spec =
     (λ c. search needs) (λ c κs. search needs) (λ c. search needs) returns-2
     (λ c. let a = c .before .before .before in rw (
       as-form (a .before .before) _ (a .operator2 .given .1),
-      c .operation2 .ensures,
+      c .operation-with2 .ensures,
       c .before .immediate .ensures,
     ))
     (λ c. let a = c .before .before .before in rw (
       as-form (a .before .before) _ (a .operator3 .given .1),
-      c .operation3 .ensures,
+      c .operation-with3 .ensures,
       c .before .shift-amount .ensures,
     ))
     (λ c. let a = c .before .before .before in rw (
       as-form (a .before .before) _ (a .operator4 .given .1),
-      c .operation4 .ensures,
+      c .operation-with4 .ensures,
       c .before .word-shift-amount .ensures,
     ))
-    (λ c. let a = c .before .before in rw (as-form (a .before .before) _ (a .width .given .1), c .load .ensures))
-    (λ c. let a = c .before .before in rw (as-form (a .before .before) _ (a .width2 .given .1), c .load2 .ensures))
-    (λ c. let a = c .before .before in rw (as-form (a .before .before) _ (a .width3 .given .1), c .store .ensures))
+    (λ c. let a = c .before .before in rw (as-form (a .before .before) _ (a .width .given .1), c .load-with .ensures))
+    (λ c. let a = c .before .before in rw (as-form (a .before .before) _ (a .width2 .given .1), c .load-with2 .ensures))
+    (λ c. let a = c .before .before in rw (as-form (a .before .before) _ (a .width3 .given .1), c .store-with .ensures))
     (λ c. rw (as-form (c .before .before) _ (c .enum-told .given .1))))

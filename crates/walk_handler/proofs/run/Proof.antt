@@ -20,4 +20,5 @@ walk-word-requires c κs =
 pub run-spec : {M : Type 1} → statement M
 run-spec =
     tie.close
-    (tie.spec (λ c κs. search needs) (λ c κs. search needs) returns walk-word-requires (λ c. search needs) (λ c. c .before .before .walk-word .ensures))
+    (tie.spec (λ c κs. search needs) (λ c κs. search needs) returns walk-word-requires (λ c. search needs)
+    (λ c. c .before .before .walk-word .ensures))

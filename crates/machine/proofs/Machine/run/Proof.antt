@@ -4,10 +4,6 @@ use Rattle.machine.proofs.Handled.{run-refused}
 use Rattle.machine.proofs.Machine.run.Statement.{statement}
 use Rattle.machine.proofs.Machine.run.Tie as tie
 
-run-in-shape-requires : tie.Need-run-in-shape-requires
-run-in-shape-requires c κs =
-    sym (c .before .before .in-shape .ensures) ∙ c .before .if1 .taken
-
 returns-2 : tie.Need-returns-2
 returns-2 c =
     rw (c .refuse .ensures) (run-refused _ _ _ (sym (c .before .before .in-shape .ensures) ∙ c .before .if1 .left))
@@ -15,5 +11,5 @@ returns-2 c =
 pub run-spec : {M : Type 1} → statement M
 run-spec =
     tie.close
-    (tie.spec (λ c κs. search needs) run-in-shape-requires (λ c. search needs) (λ c. search needs)
-    (λ c κs. search needs) returns-2)
+    (tie.spec (λ c κs. search needs) (λ c κs. sym (c .before .before .in-shape .ensures) ∙ c .before .if1 .taken)
+    (λ c. search needs) (λ c. search needs) (λ c κs. search needs) returns-2)

@@ -1,7 +1,7 @@
-use mathlib.Core.Path.{_≡_, sym, _∙_, ap}
+use mathlib.Core.Path.{sym, _∙_, ap}
 use borrow.Author.Needs.{needs}
 use Rattle.machine.specs.Run.{system}
-use Rattle.machine.proofs.Handled.{standing-within, vl-most, putBack, run-handled}
+use Rattle.machine.proofs.Handled.{position-within, vl-most, putBack, run-handled}
 use Rattle.machine.proofs.Machine.run_in_shape.Statement.{statement}
 use Rattle.machine.proofs.Machine.run_in_shape.Tie as tie
 
@@ -9,7 +9,7 @@ abbrev start : tie.After-decode → tie.Start
 start c = c .before .before .before .before .before
 
 run-requires : tie.Need-run-requires
-run-requires c κs = let shaped = start (c .before .before) .pre in (vl-most _ shaped, standing-within _ shaped)
+run-requires c κs = let shaped = start (c .before .before) .pre in (vl-most _ shaped, position-within _ shaped)
 
 returns : tie.Need-returns
 returns c =

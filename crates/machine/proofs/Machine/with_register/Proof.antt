@@ -2,8 +2,5 @@ use borrow.Author.Needs.{needs}
 use Rattle.machine.proofs.Machine.with_register.Statement.{statement}
 use Rattle.machine.proofs.Machine.with_register.Tie as tie
 
-returns : tie.Need-returns
-returns c = rw (c .write .ensures)
-
 pub with-register-spec : {M : Type 1} → statement M
-with-register-spec = tie.close (tie.spec (λ c κs. search needs) returns)
+with-register-spec = tie.close (tie.spec (λ c κs. search needs) (λ c. rw (c .write .ensures)))

@@ -4,7 +4,7 @@ use mir.Syntax.{w64}
 use mir.Val.{ofZ}
 use mir.Facts.{toZ-ofZ}
 use Rattle.scalar.specs.Signed.{arithmeticShift}
-use Rattle.scalar.proofs.TwosComplement.{reading-fits, shift-fits}
+use Rattle.scalar.proofs.TwosComplement.{signed-fits, shift-fits}
 use Rattle.scalar.proofs.signed.arithmetic_shift.Statement.{statement}
 use Rattle.scalar.proofs.signed.arithmetic_shift.Tie as tie
 
@@ -12,7 +12,7 @@ returns : tie.Need-returns
 unfolding arithmeticShift
 returns c =
     let e = c .before .to-i64 .ensures in
-    let h = reading-fits (c .before .before .fits .a) e in
+    let h = signed-fits (c .before .before .fits .a) e in
     c .of-i64 .ensures ∙ rw (toZ-ofZ h, ← e) (ap (ofZ w64) (toZ-ofZ (shift-fits _ h)))
 
 pub arithmetic-shift-spec : {M : Type 1} → statement M

@@ -1,12 +1,12 @@
 use borrow.Author.Needs.{needs}
 use Rattle.machine.specs.Reading.{readRegister}
-use Rattle.simplev_arrays.specs.Layout.{registerAt}
+use Rattle.simplev_arrays.specs.Layout.{elementAt}
 use Rattle.simplev_arrays.proofs.Leaves.{replies-same}
 use Rattle.simplev.proofs.reading.simplev_read_register.Statement.{statement}
 use Rattle.simplev.proofs.reading.simplev_read_register.Tie as tie
 
 returns : tie.Need-returns
-unfolding readRegister registerAt
+unfolding readRegister elementAt
 returns c =
     replies-same _ _ _ _ _ (c .guarded .ensures)
     (λ shaped there. rw (c .before .before .register-at .ensures, there))

@@ -1,7 +1,7 @@
 use borrow.Author.Needs.{needs}
 use Rattle.bits.proofs.Booleans.{fails, holds}
 use Rattle.machine.proofs.Shapes.{parts}
-use Rattle.machine.proofs.Handled.{standing-within, vl-most}
+use Rattle.machine.proofs.Handled.{position-within, vl-most}
 use Rattle.simplev_arrays.proofs.Arrays.{all-bits}
 use Rattle.simplev.proofs.Runs.{leaves-refused, leaves-run}
 use Rattle.simplev.proofs.running.simplev_run.Statement.{statement}
@@ -17,7 +17,7 @@ run-requires c κs =
     let read = c .before .before .before .before in
     let test = read .before .before in
     let shaped = holds (test .before .in-shape .ensures) (test .if1 .left) in
-    rw (all-bits (read .state-of .ensures) (parts _ shaped .state)) (vl-most _ shaped, standing-within _ shaped)
+    rw (all-bits (read .state-of .ensures) (parts _ shaped .state)) (vl-most _ shaped, position-within _ shaped)
 
 -- where the run has come back
 abbrev came-back : tie.After-control → tie.After-after
@@ -30,12 +30,12 @@ returns-2 c =
     let read = decoded .before .before in
     let test = read .before .before in
     let shaped = holds (test .before .in-shape .ensures) (test .if1 .left) in
-    leaves-run _ _ _ _ _ _ shaped (all-bits (read .state-of .ensures) (parts _ shaped .state)) (decoded .decode .ensures)
-    (ran .run .ensures) (c .write-answer2 .ensures)
+    leaves-run _ _ _ _ _ _ shaped (all-bits (read .state-of .ensures) (parts _ shaped .state))
+    (decoded .decode .ensures) (ran .run .ensures) (c .write-answer2 .ensures)
 
 pub simplev-run-spec : {M : Type 1} → statement M
 simplev-run-spec =
     tie.close
     (tie.spec (λ c κs. search needs) (λ c κs. search needs) returns (λ c κs. search needs) (λ c. search needs)
-    (λ c κs. search needs) run-requires (λ c. search needs) (λ c. search needs) (λ c. search needs) (λ c. search needs)
-    (λ c. search needs) (λ c κs. search needs) (λ c. search needs) returns-2)
+    (λ c κs. search needs) run-requires (λ c. search needs) (λ c. search needs) (λ c. search needs)
+    (λ c. search needs) (λ c. search needs) (λ c κs. search needs) (λ c. search needs) returns-2)

@@ -47,7 +47,7 @@ returns-2 c =
     let l = v .before .before in
     let a = l .before in
     let p = a .before .before .before in
-    let value = sym (l .fetch .ensures) ∙ v .value .given .1 in
+    let value = sym (l .load-value .ensures) ∙ v .value .given .1 in
     rw (c .after .ensures, w .write-within .ensures, t .at .ensures)
     (unit-moved _ _ _ _ _ (p .before .before .find .ensures) _ _ (p .i .given .1) _ _
     (load-value _ _ _ _ _ (a .address-at .ensures) _ value))
@@ -58,7 +58,7 @@ returns-3 c =
     let l = c .before .before .before in
     let a = l .before in
     let p = a .before .before .before in
-    let refused = sym (l .fetch .ensures) ∙ c .before .enum-told2 .given .1 in
+    let refused = sym (l .load-value .ensures) ∙ c .before .enum-told2 .given .1 in
     rw (c .faulted .ensures)
     (unit-outside _ _ _ _ _ (p .before .before .find .ensures) _ _ (p .i .given .1) _
     (load-outside _ _ _ _ _ (a .address-at .ensures) refused))

@@ -12,15 +12,15 @@ use Rattle.walk_accesses.proofs.loading.LoadPlan.walk.Tie as tie
 
 -- what is left to walk from here is the walk from the start
 abbrev Inv-loop : tie.InvT-loop
-Inv-loop self allowance registers₀ memory now₀ left₀ registers now left =
-    Within (self .sides .vl) now
+Inv-loop self allowance registers₀ memory current₀ remaining₀ registers current remaining =
+    Within (self .sides .vl) current
     × (
-    walk pausing (loadUnit self) left (context registers memory now)
-    ≡ walk pausing (loadUnit self) allowance (context registers₀ memory now₀)
+    walk pausing (loadUnit self) remaining (context registers memory current)
+    ≡ walk pausing (loadUnit self) allowance (context registers₀ memory current₀)
     )
 
 abbrev μ-loop : tie.MeasureT-loop
-μ-loop self allowance registers₀ memory now₀ left₀ registers now left = left
+μ-loop self allowance registers₀ memory current₀ remaining₀ registers current remaining = remaining
 
 loop-holds : tie.Need-loop-holds Inv-loop μ-loop
 loop-holds c = (c .before .pre .1, refl)

@@ -13,16 +13,16 @@ use Rattle.walk_accesses.proofs.storing.StorePlan.walk.Tie as tie
 
 -- what is left to walk from here is the walk from the start
 abbrev Inv-loop : tie.InvT-loop
-Inv-loop self allowance registers memory₀ now₀ left₀ memory now left =
-    Within (self .sides .vl) now
+Inv-loop self allowance registers memory₀ current₀ remaining₀ memory current remaining =
+    Within (self .sides .vl) current
     × (length memory ≡ length memory₀)
     × (
-    walk pausing (storeUnit self) left (context registers memory now)
-    ≡ walk pausing (storeUnit self) allowance (context registers memory₀ now₀)
+    walk pausing (storeUnit self) remaining (context registers memory current)
+    ≡ walk pausing (storeUnit self) allowance (context registers memory₀ current₀)
     )
 
 abbrev μ-loop : tie.MeasureT-loop
-μ-loop self allowance registers memory₀ now₀ left₀ memory now left = left
+μ-loop self allowance registers memory₀ current₀ remaining₀ memory current remaining = remaining
 
 loop-holds : tie.Need-loop-holds Inv-loop μ-loop
 loop-holds c = (c .before .pre .1, refl, refl)

@@ -12,14 +12,14 @@ use Rattle.walk_operations.proofs.operation.OperationPlan.walk.Statemen
 use Rattle.walk_operations.proofs.operation.OperationPlan.walk.Tie as tie
 
 abbrev Inv-loop : tie.InvT-loop
-Inv-loop self allowance registers₀ now₀ left₀ registers now left =
-    (now .destination < self .vl) ×
+Inv-loop self allowance registers₀ current₀ remaining₀ registers current remaining =
+    (current .destination < self .vl) ×
     ((memory : List ℕ) →
-    walk pausing (operationUnit self) left (context registers memory now)
-    ≡ walk pausing (operationUnit self) allowance (context registers₀ memory now₀))
+    walk pausing (operationUnit self) remaining (context registers memory current)
+    ≡ walk pausing (operationUnit self) allowance (context registers₀ memory current₀))
 
 abbrev μ-loop : tie.MeasureT-loop
-μ-loop self allowance registers₀ now₀ left₀ registers now left = left
+μ-loop self allowance registers₀ current₀ remaining₀ registers current remaining = remaining
 
 loop-holds : tie.Need-loop-holds Inv-loop μ-loop
 loop-holds c = (c .pre .1, λ memory. refl)

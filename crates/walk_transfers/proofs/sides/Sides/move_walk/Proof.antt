@@ -14,16 +14,16 @@ use Rattle.walk_transfers.proofs.sides.Sides.move_walk.Tie as tie
 
 -- what is left to walk from here is the walk from the start
 abbrev Inv-loop : tie.InvT-loop
-Inv-loop self allowance registers₀ now₀ left₀ registers now left =
-    Within (self .vl) now
+Inv-loop self allowance registers₀ current₀ remaining₀ registers current remaining =
+    Within (self .vl) current
     × (
     (memory : List ℕ) →
-    walk pausing (moveUnit self) left (context registers memory now)
-    ≡ walk pausing (moveUnit self) allowance (context registers₀ memory now₀)
+    walk pausing (moveUnit self) remaining (context registers memory current)
+    ≡ walk pausing (moveUnit self) allowance (context registers₀ memory current₀)
     )
 
 abbrev μ-loop : tie.MeasureT-loop
-μ-loop self allowance registers₀ now₀ left₀ registers now left = left
+μ-loop self allowance registers₀ current₀ remaining₀ registers current remaining = remaining
 
 loop-holds : tie.Need-loop-holds Inv-loop μ-loop
 loop-holds c = (c .pre .1, λ memory. refl)

@@ -8,15 +8,15 @@ use Rattle.scalar.specs.declared.width.Width.the-variants.{Word, Double}
 use Rattle.scalar.specs.declared.operator.Operator.{Operator}
 use Rattle.scalar.specs.declared.operator.Operator.the-variants.{Add, Sra}
 use Rattle.decode.specs.declared.decoded.Operand.the-variants.{Plain, Vector}
-use Rattle.decode.specs.declared.decoded.Named.{Named}
-use Rattle.decode.specs.declared.decoded.Second.{Second}
-use Rattle.decode.specs.declared.decoded.Second.the-variants.{Register, Immediate}
+use Rattle.decode.specs.declared.decoded.ResolvedOperand.{ResolvedOperand}
+use Rattle.decode.specs.declared.decoded.SecondOperand.{SecondOperand}
+use Rattle.decode.specs.declared.decoded.SecondOperand.the-variants.{Register, Immediate}
 use Rattle.decode.specs.declared.decoded.Decoded.{Decoded}
 use Rattle.decode.specs.declared.decoded.Decoded.the-variants.{Operation, Move, Load, Store, Unknown}
 use Rattle.decode.specs.Decoding.{decoded}
 
 -- an untagged operand without a mask
-abbrev pub plain : ℕ → Named
+abbrev pub plain : ℕ → ResolvedOperand
 plain n = record { operand = Plain n; width = 0; predicate = 0 }
 
 -- LD and LWU x5, 8(x6)
@@ -24,14 +24,14 @@ abbrev pub loaded : Width → Bool → Decoded
 loaded w s = Load (record { destination = plain 5; address = plain 6; offset = 8; width = w; signed = s })
 
 -- an operation from x6 to x5
-abbrev pub onto5 : Operator → Second → Decoded
+abbrev pub onto5 : Operator → SecondOperand → Decoded
 onto5 o s = Operation (record { operator = o; destination = plain 5; first = plain 6; second = s })
 
 -- a word where no entry is enabled
 abbrev pub untagged : ℕ → Decoded
 untagged word = decoded word 31 [] []
 
-pub record Readings : Type 0 where
+pub record Examples : Type 0 where
   -- ADD x5, x6, x7, and with funct7 1, which is MUL
   pub add : untagged 0x0073_02b3 ≡ onto5 Add (Register (plain 7))
   pub notMul : untagged 0x0273_02b3 ≡ Unknown

@@ -2,8 +2,8 @@ use borrow.Author.Needs.{needs}
 use borrow.Author.Tests.{eq-eqb, ne-eqb}
 use native.Mathlib.Nat.{div-one}
 use Rattle.decode.specs.Decoding.{compressedMove}
-use Rattle.decode.proofs.kinds.compressed.Statement.{statement}
-use Rattle.decode.proofs.kinds.compressed.Tie as tie
+use Rattle.decode.proofs.kinds.compressed_move.Statement.{statement}
+use Rattle.decode.proofs.kinds.compressed_move.Tie as tie
 
 returns : tie.Need-returns
 unfolding compressedMove
@@ -31,8 +31,8 @@ returns-4 c =
     let b = c .before .before .before in
     let a = b .before in
     rw (
-      c .named-for2 .ensures,
-      c .before .named-for .ensures,
+      c .resolve2 .ensures,
+      c .before .resolve .ensures,
       c .before .before .rd .ensures,
       div-one,
       eq-eqb _ _ (a .before .before .if1 .left),
@@ -41,8 +41,8 @@ returns-4 c =
       ne-eqb _ _ (b .if3 .left),
     )
 
-pub compressed-spec : {M : Type 1} → statement M
-compressed-spec =
+pub compressed-move-spec : {M : Type 1} → statement M
+compressed-move-spec =
     tie.close
     (tie.spec returns returns-2 (λ c κs. search needs) returns-3 (λ c κs. search needs) (λ c κs. search needs)
     (λ c κs. search needs) returns-4)

@@ -2,14 +2,14 @@ use mathlib.Core.Path.{refl}
 use Rattle.tables.specs.Enabled.{enabledRange}
 use Rattle.search.specs.Search.{entryAnswers, candidate, highest, heldEntry}
 use Rattle.encoding.specs.Listing.{funct3Rows, funct6Rows, funct7Rows, firstForm, lookUp}
-use Rattle.decode.specs.Naming.{named}
+use Rattle.decode.specs.Resolving.{resolved}
 use Rattle.decode.specs.Decoding.{decoded, decodedAs, compressedMove}
-use Rattle.decode.specs.Readings.{Readings}
+use Rattle.decode.specs.Examples.{Examples}
 
-pub readings : Readings
+pub examples : Examples
 unfolding enabledRange entryAnswers candidate highest heldEntry funct3Rows funct6Rows funct7Rows firstForm lookUp
-    named decoded decodedAs compressedMove
-readings =
+    resolved decoded decodedAs compressedMove
+examples =
     record {
       add = refl;
       notMul = refl;

@@ -12,7 +12,7 @@ use Rattle.tables.specs.Enabled.{enabledRange}
 use Rattle.search.specs.Search.{heldEntry}
 use Rattle.decode.specs.declared.decoded.Operand.{Operand}
 use Rattle.decode.specs.declared.decoded.Operand.the-variants.{Plain, Scalar, Vector}
-use Rattle.decode.specs.declared.decoded.Named.{Named}
+use Rattle.decode.specs.declared.decoded.ResolvedOperand.{ResolvedOperand}
 
 abbrev pub redirected : RegisterEntry → Operand
 redirected entry = cond (entry .vector) (Vector (entry .register)) (Scalar (entry .register))
@@ -32,8 +32,8 @@ predicateBy (At i) entries = getD entries i 0
 predicateBy Nothing entries = 0
 
 -- The key is the register number written in the instruction, for both tables.
-unfoldable pub named : ℕ → List ℕ → List ℕ → ℕ → Named
-named cfg registerTable predicateTable key =
+unfoldable pub resolved : ℕ → List ℕ → List ℕ → ℕ → ResolvedOperand
+resolved cfg registerTable predicateTable key =
     let range = enabledRange cfg in
     let registerHeld = heldEntry table.Register registerTable range key in
     record {

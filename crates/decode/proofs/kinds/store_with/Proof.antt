@@ -1,16 +1,16 @@
 use borrow.Author.Needs.{needs}
-use Rattle.decode.proofs.kinds.store.Statement.{statement}
-use Rattle.decode.proofs.kinds.store.Tie as tie
+use Rattle.decode.proofs.kinds.store_with.Statement.{statement}
+use Rattle.decode.proofs.kinds.store_with.Tie as tie
 
 returns : tie.Need-returns
 returns c =
     let a = c .before in
     let d = a .before .before in
     let e = d .before .rs2 .ensures in
-    rw (c .store-immediate .ensures, a .named-for2 .ensures, a .before .rs1 .ensures, d .named-for .ensures, e)
+    rw (c .store-immediate .ensures, a .resolve2 .ensures, a .before .rs1 .ensures, d .resolve .ensures, e)
 
-pub store-spec : {M : Type 1} → statement M
-store-spec =
+pub store-with-spec : {M : Type 1} → statement M
+store-with-spec =
     tie.close
     (tie.spec (λ c κs. search needs) (λ c κs. search needs) (λ c κs. search needs) (λ c κs. search needs)
     (λ c κs. search needs) returns)

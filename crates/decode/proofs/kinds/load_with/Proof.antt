@@ -1,16 +1,16 @@
 use borrow.Author.Needs.{needs}
-use Rattle.decode.proofs.kinds.load.Statement.{statement}
-use Rattle.decode.proofs.kinds.load.Tie as tie
+use Rattle.decode.proofs.kinds.load_with.Statement.{statement}
+use Rattle.decode.proofs.kinds.load_with.Tie as tie
 
 returns : tie.Need-returns
 returns c =
     let a = c .before in
     let d = a .before .before in
     let e = d .before .rd .ensures in
-    rw (c .immediate .ensures, a .named-for2 .ensures, a .before .rs1 .ensures, d .named-for .ensures, e)
+    rw (c .immediate .ensures, a .resolve2 .ensures, a .before .rs1 .ensures, d .resolve .ensures, e)
 
-pub load-spec : {M : Type 1} → statement M
-load-spec =
+pub load-with-spec : {M : Type 1} → statement M
+load-with-spec =
     tie.close
     (tie.spec (λ c κs. search needs) (λ c κs. search needs) (λ c κs. search needs) (λ c κs. search needs)
     (λ c κs. search needs) returns)

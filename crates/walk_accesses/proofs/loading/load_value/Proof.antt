@@ -1,0 +1,13 @@
+use borrow.Author.Needs.{needs}
+use Rattle.walk_accesses.proofs.loading.load_value.Statement.{statement}
+use Rattle.walk_accesses.proofs.loading.load_value.Tie as tie
+
+pub load-value-spec : {M : Type 1} → statement M
+load-value-spec =
+    tie.close
+    (tie.spec (λ c. search needs) (λ c κs. search needs) (λ c. search needs) (λ c κs. search needs)
+    (λ c. search needs) (λ c κs. search needs) (λ c. search needs) (λ c κs. search needs)
+    (λ c. rw (c .before .enum-told .given .1) (c .load-value-as .ensures))
+    (λ c. rw (c .before .enum-told2 .given .1) (c .load-value-as2 .ensures))
+    (λ c. rw (c .before .enum-told3 .given .1) (c .load-value-as3 .ensures))
+    (λ c. rw (c .before .enum-told4 .given .1) (c .load-value-as4 .ensures)))
