@@ -1,1 +1,1 @@
-// Bits of words and tests of Booleans: definitions in specs/, laws in proofs/. No code.
+// Bits of words, members of lists, and tests: definitions in specs/, laws in proofs/. No code.

@@ -7,7 +7,7 @@ use Rattle.answers.specs.Answer.{accepts}
 use Rattle.machine.specs.declared.Machine.{Machine}
 use Rattle.machine.specs.Calls.{done}
 use Rattle.machine.specs.Shape.{inShape, Sized}
-use Rattle.claims_calls.specs.Lists.{Among}
+use Rattle.bits.specs.Lists.{Among}
 use Rattle.claims_calls.specs.Copy.{Part, after, restored, IsPart, CopyKept}
 use Rattle.claims_calls.proofs.Parts.{Agree, same-machine}
 use Rattle.claims_calls.proofs.Steps.{step}

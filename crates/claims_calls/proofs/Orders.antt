@@ -7,7 +7,7 @@ use mathlib.Core.List.{List, [], _∷_, _++_}
 use lib.Dec.{eqb}
 use native.Mathlib.Omega.{arith}
 use borrow.Author.Tests.{eqb-true, eqb-false}
-use Rattle.claims_calls.specs.Lists.{Among}
+use Rattle.bits.specs.Lists.{Among}
 use Rattle.claims_calls.specs.Copy.{Part, registerEntry, predicateEntry, register, pc, stateWord, IsPart}
 use Rattle.claims_calls.specs.Copy.{eachBelow, everyRegister, everyEntry, registersFirst, RegistersFirstIsWhole}
 use Rattle.claims_calls.proofs.Parts.{by-part}

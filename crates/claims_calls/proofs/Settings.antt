@@ -25,7 +25,7 @@ use Rattle.machine.specs.Setting.{setRegister, setPc, setStateWord}
 use Rattle.machine.proofs.Shapes.{parts, in-shape}
 use Rattle.claims_calls.specs.Setting.{Setting, vl, vlImmediate, mvl, cfg, registerEntry, predicateEntry}
 use Rattle.claims_calls.specs.Setting.{register, pc, stateWord, set, returned}
-use Rattle.claims_calls.specs.Lists.{Among}
+use Rattle.bits.specs.Lists.{Among}
 use Rattle.claims_calls.specs.Calls.{settingAnswers, SettingSound}
 use Rattle.claims_calls.proofs.Guards.{by-value}
 

@@ -7,7 +7,7 @@ use Rattle.answers.specs.Answer.{numberOf, valueOf}
 use Rattle.machine.specs.declared.Machine.{Machine}
 use Rattle.machine.specs.declared.Reply.{Reply}
 use Rattle.machine.specs.Shape.{inShape, freshMachine}
-use Rattle.claims_calls.specs.Lists.{Among}
+use Rattle.bits.specs.Lists.{Among}
 use Rattle.claims_calls.specs.Setting.{Setting, set, returned, Accepted}
 use Rattle.claims_calls.specs.Reading.{Reading, read}
 

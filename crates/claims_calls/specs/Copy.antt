@@ -8,7 +8,7 @@ use Rattle.machine.specs.declared.Machine.{Machine}
 use Rattle.machine.specs.declared.Reply.{Reply}
 use Rattle.machine.specs.Calls.{refuse, done}
 use Rattle.machine.specs.Shape.{inShape, Sized}
-use Rattle.claims_calls.specs.Lists.{Among}
+use Rattle.bits.specs.Lists.{Among}
 use Rattle.claims_calls.specs.Reading as out
 use Rattle.claims_calls.specs.Reading.{Reading, read}
 use Rattle.claims_calls.specs.Setting as back

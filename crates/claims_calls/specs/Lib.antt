@@ -1,4 +1,3 @@
-pub mod Lists
 pub mod Setting
 pub mod Reading
 pub mod Calls

@@ -12,7 +12,7 @@ use Rattle.walk_operands.specs.declared.place.Place.{Place}
 use Rattle.walk_operands.specs.Place.{placeOf, registerAt, fits}
 use Rattle.bits.specs.Lists.{all}
 use Rattle.walk_plans.specs.Operands.{defaultWidth, fitting}
-use Rattle.claims_calls.specs.Lists.{Some}
+use Rattle.bits.specs.Lists.{Some}
 use Rattle.claims_demands.specs.Refusals.{OtherWidth, PastVector}
 use Rattle.claims_demands.proofs.Resolved.{All, Small}
 

@@ -10,7 +10,7 @@ use Rattle.walk_operands.specs.Place.{placeOf, registerAt}
 use Rattle.walk_plans.specs.Operands.{operandsOf}
 use Rattle.machine.specs.declared.Machine.{Machine}
 use Rattle.machine.specs.Run.{wordOn}
-use Rattle.claims_calls.specs.Lists.{Some}
+use Rattle.bits.specs.Lists.{Some}
 
 -- a store has no destination
 abbrev pub destinationsOf : Decoded → List ResolvedOperand

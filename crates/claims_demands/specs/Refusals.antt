@@ -12,7 +12,7 @@ use Rattle.walk_plans.specs.Operands.{operandsOf}
 use Rattle.machine.specs.declared.Machine.{Machine}
 use Rattle.machine.specs.Shape.{inShape}
 use Rattle.machine.specs.Run.{System, wordOn, run}
-use Rattle.claims_calls.specs.Lists.{Some}
+use Rattle.bits.specs.Lists.{Some}
 
 -- the entry that holds for an operand has a width other than 00
 abbrev pub OtherWidth : ResolvedOperand → Type 0

@@ -1,4 +1,4 @@
--- What a word is, with its operands. `name` says what a register number names.
+-- What a word is, with its operands. `operand` says what a register number names.
 use Prim.Native.Nat.{ℕ}
 use mathlib.Core.Bool.{Bool, true, false, cond, _&&_, not}
 use mathlib.Core.List.{List}

@@ -57,7 +57,7 @@ topOf (from low n) = n
 abbrev pub longOf : Row → ℕ
 longOf r = topOf (r .top) * 1024 + codeOf r
 
--- a row told by its code, with its highest bits apart or in it
+-- a row found by its code, with its highest bits apart or in it
 abbrev pub fitsCode : ℕ → ℕ → Row → Bool
 fitsCode word n r = eqb n (codeOf r) && hasTop (r .top) word
 

@@ -59,7 +59,7 @@ fn load_value_as(memory: &[u8], address: u64, width: Width, signed: bool) -> Loa
     }
 }
 
-// The same, with the width told apart once: each case is compiled for its own width.
+// The same, with the width distinguished once: each case is compiled for its own width.
 fn load_value(memory: &[u8], address: u64, width: Width, signed: bool) -> Loaded
     ensures { λ r. ⌜ r ≡ loadValue (now (memory .entry)) address width signed ⌝ }
 {

@@ -23,7 +23,7 @@ pub struct StorePlan {
     pub width: Width,
 }
 
-// A store with the width told apart once: each case is compiled for its own width.
+// A store with the width distinguished once: each case is compiled for its own width.
 fn put(memory: &mut [u8], address: u64, width: Width, value: u64) -> Stored
     ensures answer { λ r. ⌜ r ≡ storeAnswer (now (memory .entry)) address (bytesOf width) ⌝ }
     ensures bytes { λ _. ⌜ now (memory .exit) ≡ stored (now (memory .entry)) address (bytesOf width) value ⌝ }

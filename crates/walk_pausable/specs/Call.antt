@@ -11,7 +11,7 @@ pub data Prepared (A P : Type 0) : Type 0 where
   refused : A → Prepared A P
   ready : P → Prepared A P
 
--- a further call: what happens to the state before it, named by an H, and the units that it may do
+-- the next call: what happens to the state before it, an H, and the units that it may do
 pub record NextCall (H : Type 0) : Type 0 where
   pub change : H
   pub allowance : ℕ

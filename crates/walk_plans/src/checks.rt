@@ -43,7 +43,7 @@ fn checked_operands(
     Answer::Done(0)
 }
 
-// Of a word with two operands the second is looked at again.
+// Of a word with two operands the second is looked at again; an unknown word has none.
 pub fn checked(word: Decoded, vl: u32) -> Answer
     ensures { λ r. ⌜ r ≡ checked vl word ⌝ }
 {

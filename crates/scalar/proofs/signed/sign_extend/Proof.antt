@@ -1,4 +1,4 @@
--- The narrow widths differ only in the width at which the laws are cited; a double is its own extension.
+-- The widths below 64 bits differ only in the width at which the laws are cited; a double is its own extension.
 use mathlib.Core.Path.{_≡_, sym, _∙_}
 use Prim.Native.Nat.{_%_, _^_}
 use native.Mathlib.Omega.{arith}
