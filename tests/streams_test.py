@@ -14,9 +14,9 @@ HERE = pathlib.Path(__file__).resolve().parent
 sys.path.insert(0, str(HERE))
 import model
 
-ROOT = HERE.parent.parent
+ROOT = HERE.parent
 CRATE = ROOT / "crates" / "test_streams"
-loader = importlib.machinery.SourceFileLoader("stream", str(HERE.parent / "stream"))
+loader = importlib.machinery.SourceFileLoader("stream", str(ROOT / "tools" / "stream"))
 stream = importlib.util.module_from_spec(importlib.util.spec_from_loader("stream", loader))
 loader.exec_module(stream)
 

@@ -3,7 +3,7 @@
 use difftest::calls::{call, Call};
 use difftest::machine::Machine;
 
-const FILE: &str = concat!(env!("CARGO_MANIFEST_DIR"), "/../crates/test_vectors/data/rv64i.txt");
+const FILE: &str = concat!(env!("CARGO_MANIFEST_DIR"), "/../../crates/test_vectors/data/rv64i.txt");
 
 fn agrees(line: &str) -> bool {
     let numbers: Vec<u64> = line.split(' ').map(|text| u64::from_str_radix(text, 16).expect("a number")).collect();

@@ -7,7 +7,7 @@ fn main() {
     let package = PathBuf::from(env::var("CARGO_MANIFEST_DIR").expect("set by cargo"));
     let folder = match env::var("SIMPLEV_LIB_DIR") {
         Ok(named) => PathBuf::from(named),
-        Err(_) => package.join("../target/staticlib"),
+        Err(_) => package.join("../../target/staticlib"),
     };
     println!("cargo:rustc-link-search=native={}", folder.display());
     println!("cargo:rerun-if-changed={}", folder.join("libsimplev.a").display());

@@ -7,7 +7,7 @@ import random
 import subprocess
 import sys
 
-TOOL = pathlib.Path(__file__).resolve().parent.parent / "stream"
+TOOL = pathlib.Path(__file__).resolve().parent.parent / "tools" / "stream"
 loader = importlib.machinery.SourceFileLoader("stream", str(TOOL))
 stream = importlib.util.module_from_spec(importlib.util.spec_from_loader("stream", loader))
 sys.dont_write_bytecode = True
