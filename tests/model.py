@@ -82,6 +82,39 @@ class Machine:
         self.mvl, self.vl, self.source, self.destination, self.cfg = mvl, vl, source, destination, word >> 24
         return 0
 
+    def set_lengths(self, mvl, vl):
+        if not (1 <= mvl <= 64 and vl):
+            return 7
+        self.mvl, self.vl, self.source, self.destination = mvl, min(vl, mvl), 0, 0
+        return 0
+
+    def set_vl(self, n):
+        return self.set_lengths(self.mvl, n)
+
+    def set_vl_immediate(self, n):
+        return 7 if n > 31 else self.set_lengths(self.mvl, n + 1)
+
+    def set_mvl(self, n):
+        return self.set_lengths(n, self.vl)
+
+    def set_cfg(self, n):
+        if n > 31:
+            return 7
+        self.cfg = n
+        return 0
+
+    def set_pc(self, n):
+        self.pc = n
+        return 0
+
+    def state_word(self):
+        return self.mvl - 1 | self.vl - 1 << 6 | self.source << 12 | self.destination << 18 | self.cfg << 24
+
+    def in_shape(self):
+        """Whether a call that keeps the ranges could have left it so."""
+        return (1 <= self.vl <= self.mvl <= 64 and max(self.source, self.destination) < self.vl and self.cfg <= 31
+                and self.x[0] == 0 and not any(entry & 1 for entry in self.predicates))
+
     # what an instruction's register number names
     def enabled(self):
         bank, size = self.cfg & 7, self.cfg >> 3

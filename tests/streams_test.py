@@ -1,24 +1,17 @@
 #!/usr/bin/env python3
-"""The streams of tests/streams: that crates/test_streams has their bytes, and the output that the model of the requirements gives.
+"""The streams of tests/streams: that crates/test_streams has their bytes, and the output that the model gives.
 
 usage: streams_test.py [--write]    --write makes crates/test_streams' data, args and stdout anew
 """
-import importlib.machinery
-import importlib.util
-import pathlib
 import random
 import sys
 
 sys.dont_write_bytecode = True
-HERE = pathlib.Path(__file__).resolve().parent
-sys.path.insert(0, str(HERE))
 import model
+from support import ROOT, module
 
-ROOT = HERE.parent
 CRATE = ROOT / "crates" / "test_streams"
-loader = importlib.machinery.SourceFileLoader("stream", str(ROOT / "tools" / "stream"))
-stream = importlib.util.module_from_spec(importlib.util.spec_from_loader("stream", loader))
-loader.exec_module(stream)
+stream = module("stream")
 
 
 def longer_than_a_buffer():
