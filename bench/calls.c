@@ -1,5 +1,5 @@
-/* calls HANDLER CASE VL COUNT: runs a case COUNT times, by the proved handler with the machine by value, by the same over
-   the lent state, or by the plain one. Prints a sum of what is left, which all must give alike.
+/* calls HANDLER CASE VL COUNT: runs a case COUNT times, by the proved handler with the machine by value, by the same
+   over the lent state, or by the plain one. Prints a sum of what is left, which all must give alike.
    calls times CASE VL: prints the time of each handler, in nanoseconds a run, the least of several rounds. */
 #define _POSIX_C_SOURCE 199309L
 #include "../include/simplev.h"

@@ -1,5 +1,5 @@
-/* A plain handler in C of the same call, written for speed, to compare with. It trusts its caller that the machine is in
-   shape and the word is one that is served, where the proved handler tests both. */
+/* A plain handler in C of the same call, written for speed, to compare with. It trusts its caller that the machine is
+   in shape and the word is one that is served, where the proved handler tests both. */
 #ifndef PLAIN_H
 #define PLAIN_H
 #include <stddef.h>

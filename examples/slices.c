@@ -1,6 +1,6 @@
 /* slices: one vector ADD, done in slices of three elements, as an interrupt handler would that must not stay away for
- * long. Between the slices comes other work: once it takes the same machine, which is copied out before and written back
- * after; once the rest goes on in another machine. Then a load that faults, and goes on when its memory is there.
+ * long. Between the slices comes other work: once it takes the same machine, which is copied out before and written
+ * back after; once the rest goes on in another machine. Then a load that faults, and goes on when its memory is there.
  *
  * Prints what happens, checks it, and ends with status 1 where something is not as it should be. Build it with
  *
@@ -87,7 +87,8 @@ static void other_work(struct simplev_machine *m, uint8_t *memory)
     uint64_t value, address;
     simplev_machine_fresh(m);
     accepted(simplev_machine_set_register(m, 10, 40, &value));
-    expect(simplev_machine_step(m, ADDI_X10_X10_2, memory, 0, &address) == SIMPLEV_DONE, "the interrupt's ADDI is done");
+    expect(simplev_machine_step(m, ADDI_X10_X10_2, memory, 0, &address) == SIMPLEV_DONE,
+           "the interrupt's ADDI is done");
     printf("  interrupt: x10 is %" PRIu64 "\n", m->registers[10]);
     expect(m->registers[10] == 42, "the interrupt's x10 is 42");
 }
@@ -148,8 +149,8 @@ static void load_with_a_fault(void)
     memory[33] = 1;
     memory[40] = 9;
     answer = simplev_machine_run(&m, LD_X5_8_X6, 65535, memory, 40, &address);
-    printf("load from 40 bytes: answer %" PRIu32 ", address %" PRIu64 ", pc %" PRIu64 ", at element %" PRIu64 "\n", answer,
-           address, m.control[SIMPLEV_PC], m.control[SIMPLEV_SOURCE]);
+    printf("load from 40 bytes: answer %" PRIu32 ", address %" PRIu64 ", pc %" PRIu64 ", at element %" PRIu64 "\n",
+           answer, address, m.control[SIMPLEV_PC], m.control[SIMPLEV_SOURCE]);
     expect(answer == SIMPLEV_FAULT && address == 40, "the third access faults, at 40");
     expect(m.control[SIMPLEV_SOURCE] == 2 && m.control[SIMPLEV_DESTINATION] == 2, "the offsets stand at it");
     answer = simplev_machine_run(&m, LD_X5_8_X6, 65535, memory, 48, &address);

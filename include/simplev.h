@@ -10,8 +10,8 @@
  * (proved of its source, see docs/CONTRACTS.md, sections "C interface" and "The three demands"):
  *
  *  - It ends, and returns one of the answers below. Nothing has to be checked before it.
- *  - Its out-parameter (`value` or `address`) is always written: with what the call's comment says, and with 0 where the
- *    answer is a refusal.
+ *  - Its out-parameter (`value` or `address`) is always written: with what the call's comment says, and with 0 where
+ *    the answer is a refusal.
  *  - A refusal (2, 3, 4, 6, 7, 8) changes nothing in the machine or the memory.
  *  - Every word of the machine and every byte of the memory after it is what the definition of the call gives. Of the
  *    arrays it writes only those that are not const in its declaration.
@@ -68,7 +68,8 @@ enum simplev_answer {
  * keeps them apart, as one pair of tables for several machines, can call the functions themselves.
  *
  * Any content is accepted: a machine out of shape is refused with 6. Control words are 64 bits wide, and one above its
- * range, also above 2^32, is out of shape. A machine of all zero bytes is out of shape: begin with simplev_machine_fresh.
+ * range, also above 2^32, is out of shape. A machine of all zero bytes is out of shape: begin with
+ * simplev_machine_fresh.
  *
  * Register entry: bit 15 vector, bits 14..8 real register, bit 7 one for integer, bits 6..5 width, bits 4..0 key.
  * Predicate entry: bits 15..11 key, bit 10 zeroing, bit 9 invert, bit 8 one for integer, bits 7..1 mask register, bit 0
@@ -98,8 +99,8 @@ SIMPLEV_ASSERT(sizeof(struct simplev_machine) == 1136, "1136 bytes");
 extern "C" {
 #endif
 
-/* The calls on the four arrays of a machine, in the order of the struct. Each has a wrapper below that takes the struct,
- * where its comment stands. */
+/* The calls on the four arrays of a machine, in the order of the struct. Each has a wrapper below that takes the
+ * struct, where its comment stands. */
 
 void simplev_fresh(uint64_t *registers, uint64_t *control, uint16_t *register_table, uint16_t *predicate_table);
 
@@ -154,25 +155,25 @@ static inline void simplev_machine_fresh(struct simplev_machine *m)
     simplev_fresh(m->registers, m->control, m->register_table, m->predicate_table);
 }
 
-/* Runs an instruction word for at most `allowance` units, on a memory of `size` bytes at addresses from 0, or none where
- * `memory` is NULL. A unit of an operation is one position, also one that its mask leaves out. A unit of a move, a load
- * or a store skips to the next pair of positions that are on, and moves one element.
+/* Runs an instruction word for at most `allowance` units, on a memory of `size` bytes at addresses from 0, or none
+ * where `memory` is NULL. A unit of an operation is one position, also one that its mask leaves out. A unit of a move,
+ * a load or a store skips to the next pair of positions that are on, and moves one element.
  *
  *  DONE    all elements done: the program counter has gone up by 4 (2 for C.MV), and both offsets are 0.
- *  PAUSED  the elements so far are done, the program counter is where it was, and the offsets stand at the next element.
- *          The same call again goes on from there, on this machine or on another that was in shape when this one was
- *          copied into it by the reading and setting calls: every register, both tables whole, the program counter and
- *          the state word, in any order. However it is cut, the end is the same as of one call with the sum of the
- *          allowances, as long as no mask register set for an operand is among the registers that the instruction may
- *          write (the destination's register and, for a vector, the VL - 1 above it; a store has none), and memory is
- *          not touched in between. An allowance of VL or more never pauses. With allowance 0 a good word pauses, and
- *          nothing changes.
+ *  PAUSED  the elements so far are done, the program counter is where it was, and the offsets stand at the next
+ *          element. The same call again goes on from there, on this machine or on another that was in shape when this
+ *          one was copied into it by the reading and setting calls: every register, both tables whole, the program
+ *          counter and the state word, in any order. However it is cut, the end is the same as of one call with the sum
+ *          of the allowances, as long as no mask register set for an operand is among the registers that the
+ *          instruction may write (the destination's register and, for a vector, the VL - 1 above it; a store has none),
+ *          and memory is not touched in between. An allowance of VL or more never pauses. With allowance 0 a good word
+ *          pauses, and nothing changes.
  *  FAULT   the elements before it are done, and the offsets stand at the one that failed; `*address` is the address of
  *          its access. The program counter is where it was, so the same call again tries that element again.
  *
  * `*address` is 0 with every answer but FAULT. The tables, MVL, VL and CFG are never changed. */
-static inline uint32_t simplev_machine_run(struct simplev_machine *m, uint32_t word, uint16_t allowance, uint8_t *memory,
-                                           size_t size, uint64_t *address)
+static inline uint32_t simplev_machine_run(struct simplev_machine *m, uint32_t word, uint16_t allowance,
+                                           uint8_t *memory, size_t size, uint64_t *address)
 {
     uint8_t none = 0;
     return simplev_run(m->registers, m->control, m->register_table, m->predicate_table, word, allowance,
@@ -214,8 +215,8 @@ static inline uint32_t simplev_machine_set_cfg(struct simplev_machine *m, uint32
     return simplev_set_cfg(m->registers, m->control, m->register_table, m->predicate_table, n, value);
 }
 
-/* State word: bits 5..0 MVL - 1, 11..6 VL - 1, 17..12 source offset, 23..18 destination offset, 28..24 CFG, 31..29 zero.
- * VL is cut to MVL. BAD_VALUE where bits 31..29 are not zero or an offset is not below the cut VL. */
+/* State word: bits 5..0 MVL - 1, 11..6 VL - 1, 17..12 source offset, 23..18 destination offset, 28..24 CFG, 31..29
+ * zero. VL is cut to MVL. BAD_VALUE where bits 31..29 are not zero or an offset is not below the cut VL. */
 static inline uint32_t simplev_machine_set_state_word(struct simplev_machine *m, uint32_t word, uint64_t *value)
 {
     return simplev_set_state_word(m->registers, m->control, m->register_table, m->predicate_table, word, value);
@@ -231,7 +232,8 @@ static inline uint32_t simplev_machine_set_pc(struct simplev_machine *m, uint64_
 static inline uint32_t simplev_machine_set_register(struct simplev_machine *m, uint32_t index, uint64_t value_in,
                                                     uint64_t *value)
 {
-    return simplev_set_register(m->registers, m->control, m->register_table, m->predicate_table, index, value_in, value);
+    return simplev_set_register(m->registers, m->control, m->register_table, m->predicate_table, index, value_in,
+                                value);
 }
 
 /* NO_SUCH where index is above 15. */

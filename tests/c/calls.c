@@ -1,5 +1,5 @@
-/* calls: each call of simplev.h from C, with an answer of every kind that it gives. What the calls do is proved; this is
- * for what no proof covers, that C and the library agree on the order, the width and the place of each parameter.
+/* calls: each call of simplev.h from C, with an answer of every kind that it gives. What the calls do is proved; this
+ * is for what no proof covers, that C and the library agree on the order, the width and the place of each parameter.
  * Prints how many checks hold, and ends with status 1 where one does not. */
 #include "simplev.h"
 #include <stdio.h>

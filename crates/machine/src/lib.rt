@@ -13,7 +13,8 @@ pub mod reading;
 pub mod running;
 pub mod setting;
 
-// The two tables stand last: all before them is what one room has of its own.
+// The two tables stand last: all before them is what one room has of its own. C's layout is for the benchmark, which
+// hands a machine over by value (crate test_bench); the C interface lends arrays, and does not use it.
 #[repr(C)]
 pub struct Machine {
     pub registers: [u64; REGISTERS],

@@ -3,6 +3,7 @@ ghost use mathlib.Core.Path.{_≡_};
 ghost use Prim.Native.Nat.{_-_, min};
 ghost use Rattle.state_word.specs.State.{ofWord, wordOf, cut, goodWord, withVl, withMvl, stateInShape};
 
+// C's layout is for the benchmark alone, as that of `Machine`, of which it is a part.
 #[repr(C)]
 pub struct State {
     pub mvl: u32,

@@ -99,12 +99,17 @@ fn read_piece(fd: i32, stopped: bool, piece: &mut [u8]) -> isize {
     libc::read(fd, piece)
 }
 
+// After a read that failed nobody knows what the rest of the stream would have left in the registers.
 fn say_unread(fd: i32) {
     if fd == STDIN_FILENO {
         os::fail(b"standard input");
-        return;
+    } else {
+        os::fail(b"stream");
     }
-    os::fail(b"stream");
+    io::write_all(
+        libc::STDERR_FILENO,
+        b"the stream was not read to its end: its registers are not printed\n",
+    );
 }
 
 // The next piece, or the end: `written` bytes are all that the stream has printed so far.

@@ -15,6 +15,7 @@ use coverage::Coverage;
 use pair::Bench;
 use std::panic::{self, AssertUnwindSafe};
 use std::process::ExitCode;
+use std::time::{Duration, Instant};
 
 const USAGE: &str = "usage: difftest [--seed S] [--cases N] [--coverage]
        difftest --seed S --case N
@@ -40,7 +41,7 @@ fn options() -> Option<Options> {
         let mut number = || words.next().and_then(|text| text.parse().ok());
         match word.as_str() {
             "--seed" => options.seed = number()?,
-            "--cases" => options.cases = number()?,
+            "--cases" => options.cases = number().filter(|&cases| cases > 0)?,
             "--case" => options.case = Some(number()?),
             "--coverage" => options.coverage = true,
             _ => return None,
@@ -65,7 +66,12 @@ fn compare(options: &Options) -> Result<Coverage, String> {
         Some(case) => case..case + 1,
         None => 0..options.cases,
     };
+    let mut said = Instant::now();
     for number in numbers {
+        if said.elapsed() > Duration::from_secs(5) {
+            said = Instant::now();
+            eprintln!("difftest: {number} of {} cases of seed {}", options.cases, options.seed);
+        }
         if let Err(text) = one_case(&mut bench, options.seed, number) {
             let seed = options.seed;
             let text = text.trim_end();
