@@ -249,7 +249,7 @@ def expect(true, where, what):
         wrong.append(f"{where}: {what}")
 
 
-# --- (a) paths ------------------------------------------------------------------------------------
+# --- paths ----------------------------------------------------------------------------------------
 
 
 def bare(word):
@@ -303,7 +303,7 @@ def check_header():
     check_paths("include/simplev.h", Piece("text", 1, comments.replace(" * ", " "), None))
 
 
-# --- (b) names ------------------------------------------------------------------------------------
+# --- names ----------------------------------------------------------------------------------------
 
 
 def spans(text):
@@ -365,7 +365,7 @@ def check_foreign():
         expect(word not in NAMES, "FOREIGN", f"`{word}` is defined in {min(NAMES.get(word, {''}))}")
 
 
-# --- (c) links ------------------------------------------------------------------------------------
+# --- links and sections ---------------------------------------------------------------------------
 
 
 def check_links(name, piece):
@@ -393,7 +393,7 @@ def check_sections(name, piece):
             expect(title in known, f"{name}:{piece.line}", f'{place} has no section "{title}"')
 
 
-# --- (d) to (f) docs/ARCHITECTURE.md and docs/DECISIONS.md ----------------------------------------
+# --- docs/ARCHITECTURE.md and docs/DECISIONS.md ---------------------------------------------------
 
 ARCHITECTURE = "docs/ARCHITECTURE.md"
 DECISIONS = "docs/DECISIONS.md"
@@ -453,7 +453,7 @@ def check_decisions():
         expect(False, DECISIONS, f"the table has {' '.join(row)} where the entry is {' '.join(entry)}")
 
 
-# --- (g) and (h) lines ----------------------------------------------------------------------------
+# --- lines ----------------------------------------------------------------------------------------
 
 NARROW = ("crates/*/src/*.rt", "include/*", "examples/*", "tools/*", "bench/*", "tests/*.py", "tests/*_test",
           "tests/c/*", "tests/rv64/*", "tests/difftest/*.rs", ".ci/*", "run")

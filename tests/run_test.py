@@ -239,6 +239,23 @@ def lock(tree):
     check("one that still reads", ended(reading)[0] == PRINTED)
 
 
+def interrupted(tree):
+    """Control-C while it proves: it ends, leaves no file, and the lock is free."""
+    kept = tree.folder / "kept"
+    kept.mkdir()
+    # the signal is ignored where this test was started in the background
+    process = tree.start(start_new_session=True, preexec_fn=lambda: signal.signal(signal.SIGINT, signal.SIG_DFL),
+                         environment={"STAND_IN_SECONDS": "30", "TMPDIR": str(kept)})
+    time.sleep(1)
+    check("it is at work", process.poll() is None and list(kept.iterdir()))
+    os.killpg(process.pid, signal.SIGINT)
+    _, said = ended(process)
+    check("an interrupt ends it", process.returncode == 130, process.returncode, said)
+    check("it leaves no file", not list(kept.iterdir()), *kept.iterdir())
+    (tree.aside / "busy").rmdir()
+    prints(tree, "after an interrupt", PRINTED)
+
+
 def progress(tree):
     crates = set()
     for line in (ROOT / "crates.txt").read_text().splitlines():
@@ -269,7 +286,7 @@ def main():
     every_script_locks()
     with tempfile.TemporaryDirectory() as folder:
         tree = Tree(folder)
-        for part in (streams, slow_pipes, stopped_pipe, refused, statuses, lock, progress):
+        for part in (streams, slow_pipes, stopped_pipe, refused, statuses, lock, interrupted, progress):
             part(tree)
     print(f"run_test: {checks} checks of ./run, its lock and its progress")
 

@@ -98,6 +98,7 @@ prove() { # check NAME.. | staticlib NAME
     command -v rt > /dev/null || fail 'the Rattle toolchain is not installed: there is no rt'
     lock
     folder=$(mktemp -d)
+    trap 'rm -rf "$folder"; exit 130' INT
     # shellcheck disable=SC2046
     show_progress "$folder" $(crates_of "${@:2}") &
     watcher=$!
@@ -106,6 +107,7 @@ prove() { # check NAME.. | staticlib NAME
     wait "$watcher" 2> /dev/null || true
     [ "$status" = 0 ] || cat "$folder/log" >&2
     rm -rf "$folder"
+    trap - INT
     [ "$status" = 0 ] || fail "rt $* failed"
 }
 
