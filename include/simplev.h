@@ -1,15 +1,17 @@
 /* simplev.h: the trap handler for Simple-V on RV64, as C calls it.
  *
  * The caller owns a machine, `struct simplev_machine`, and a memory of bytes, and lends both to each call, which works
- * on them in place. The library keeps nothing and allocates nothing, and needs nothing of C's but `memset` and
- * `memcpy`. A call may be made from any thread, as long as no other call has the same machine or memory at that time.
+ * on them in place. The library keeps nothing and allocates nothing, and needs nothing from outside but `memset`. Built
+ * for RV64 with other flags it may need more, as `memcpy` with -Os, which tools/rv64 prints.
  *
- * Link with libsimplev.a (`rt staticlib simplev` writes target/staticlib/libsimplev.a).
+ * Link with libsimplev.a: for x86-64 `rt staticlib simplev` writes target/staticlib/libsimplev.a, for RV64 `tools/rv64`
+ * writes target/rv64/libsimplev.a, and `tools/install` puts both where pkg-config finds them.
  *
  * What each function of the library guarantees, whatever the machine, the word, the memory and the arguments hold
  * (proved of its source, see docs/CONTRACTS.md, sections "C interface" and "The three demands"):
  *
- *  - It ends, and returns one of the answers below. Nothing has to be checked before it.
+ *  - It ends, and returns one of the answers below (simplev_fresh nothing, simplev_version a version). Nothing has to
+ *    be checked before it.
  *  - Its out-parameter (`value` or `address`) is always written: with what the call's comment says, and with 0 where
  *    the answer is a refusal.
  *  - A refusal (2, 3, 4, 6, 7, 8) changes nothing in the machine or the memory.
@@ -24,6 +26,38 @@
  *  - The arrays, the memory and the out-parameter do not overlap each other.
  *  - simplev_run and simplev_step take a `memory` that is a valid pointer even where `size` is 0. Their wrappers
  *    simplev_machine_run and simplev_machine_step take NULL too, as a memory of no bytes.
+ *
+ * Threads and interrupts. The library has no data of its own, so calls may be made from any thread, and a call may be
+ * interrupted at any instruction by code that makes calls itself, as long as no two have the same machine, memory or
+ * out-parameter (tables that all of them take as const may be shared). Until the interrupted call has returned, an
+ * interrupt neither writes these three nor reads them: the machine in between is no state that is defined. It may use
+ * another machine and another memory. An interrupt that needs the machine waits for the end of the call, which a small
+ * allowance brings near.
+ *
+ * What a call takes, measured on RV64 (rv64imac, -O3), not proved:
+ *
+ *  - Stack: at most 256 bytes, without those of memset. tools/rv64 prints it for other flags.
+ *  - Time, counted over states chosen to be bad. docs/BENCHMARKS.md says how, and how to choose an allowance for an
+ *    interrupt latency.
+ *   allowance 0, 1, 4, 16, VL: at most 0, 0, 0, 0, 0 instructions
+ *
+ * Memory that begins elsewhere. Addresses begin at 0: an access at address a is to memory[a]. RAM that begins at BASE,
+ * 0x80000000, say, or a part of it, is lent by a pointer to its first byte and its length, and during a call the
+ * registers with addresses hold distances from it:
+ *
+ *  - Before the call of a load or store subtract BASE, modulo 2^64, from the real register of rs1, or from all VL of
+ *    them where it is a vector. After the call, also one that paused or faulted, add BASE to the same registers, and to
+ *    `*address` if the answer is FAULT. A call with allowance 0 before it says whether the word is refused.
+ *  - That is right where none of these registers is register 0, one that the word may load or stores, or a mask
+ *    register set for an operand. Where a load may write its own address register, or a store stores it, go element by
+ *    element: a step without memory does nothing but come to the next element and give its address, as that of a fault;
+ *    if it is one of RAM, subtract BASE from this element's register alone, step with memory, and add BASE to it again
+ *    unless it was loaded; if it was stored, store it once more. An access by register 0, which can't hold a distance,
+ *    is a fault where no RAM lies within its reach. For an address register that is a mask register there is no way.
+ *  - A pointer to address 0 with a size up to the end of RAM is not the way: NULL is no memory, and all that lies below
+ *    RAM would be lent, so that an access there is no fault.
+ *
+ * examples/elsewhere.c has a function that does all of this.
  */
 #ifndef SIMPLEV_H
 #define SIMPLEV_H
@@ -31,10 +65,13 @@
 #include <stddef.h>
 #include <stdint.h>
 
-#define SIMPLEV_VERSION "1.0.0"
+/* The version of this header; simplev_version says that of the archive. The major number changes when something that
+ * was there changes, the minor one when something is added. */
+#define SIMPLEV_VERSION "1.1.0"
 #define SIMPLEV_VERSION_MAJOR 1
-#define SIMPLEV_VERSION_MINOR 0
+#define SIMPLEV_VERSION_MINOR 1
 #define SIMPLEV_VERSION_PATCH 0
+#define SIMPLEV_VERSION_NUMBER (SIMPLEV_VERSION_MAJOR * 65536 + SIMPLEV_VERSION_MINOR * 256 + SIMPLEV_VERSION_PATCH)
 
 /* The limits of a machine. */
 #define SIMPLEV_REGISTERS 128 /* integer registers of 64 bits; register 0 is always 0 */
@@ -98,6 +135,14 @@ SIMPLEV_ASSERT(sizeof(struct simplev_machine) == 1136, "1136 bytes");
 #ifdef __cplusplus
 extern "C" {
 #endif
+
+/* SIMPLEV_VERSION_NUMBER of the header that the archive belongs to. A program that is built with one header and linked
+ * with another's archive notices so by
+ *
+ *     if (simplev_version() != SIMPLEV_VERSION_NUMBER)
+ *
+ * and the archive of 1.0.0, which has no such function, isn't linked at all. */
+uint32_t simplev_version(void);
 
 /* The calls on the four arrays of a machine, in the order of the struct. Each has a wrapper below that takes the
  * struct, where its comment stands. */

@@ -8,6 +8,7 @@ Needs the library, which tools/calls proves where it is missing.
 import os
 import pathlib
 import random
+import re
 import select
 import subprocess
 import sys
@@ -83,6 +84,12 @@ def dump(machine):
     yield from (f"mem{i} {n}" for i, n in enumerate(machine.memory) if n)
 
 
+def version():
+    """What the header says: the library has to say the same."""
+    header = (support.ROOT / "include" / "simplev.h").read_text()
+    return "version " + re.search(r'^#define SIMPLEV_VERSION "(.*)"$', header, re.M)[1]
+
+
 def read(words):
     return [min(int(word, 16 if word.startswith("0x") else 10), 2**64 - 1) for word in words]
 
@@ -104,6 +111,8 @@ def expected(text):
             machine.memory[address] = byte
         elif verb == "dump":
             lines += dump(machine)
+        elif verb == "version":
+            lines.append(version())
         elif verb != "nothing":
             raise ValueError(line)
     return lines
@@ -157,7 +166,7 @@ def check_scripts():
 
 # a bad line, and a part of what is said of it
 ERRORS = [
-    (b"jump 5", "'jump' is none of the commands fresh, set, get, run, step, poke, mem, dump"),
+    (b"jump 5", "'jump' is none of the commands fresh, set, get, run, step, poke, mem, dump, version"),
     (b"SET x 5 1", "'SET' is none of the commands"),
     (b"set", "set takes one of vl, vli, mvl, state, cfg, pc, x, reg, pred\n"),
     (b"set y 5", "set takes one of vl, vli, mvl, state, cfg, pc, x, reg, pred, and not 'y'\n"),
@@ -171,6 +180,7 @@ ERRORS = [
     (b"run 0x007302b3", "the form is: run WORD ALLOWANCE"),
     (b"step 0x007302b3 1", "the form is: step WORD"),
     (b"dump 1", "the form is: dump"),
+    (b"version 1", "the form is: version"),
     (b"fresh", "the form is: fresh MEMLEN"),
     (b"mem 1", "the form is: mem ADDRESS BYTE"),
     (b"set x 5 -1", "'-1' is no number; a number is decimal, or 0x and hex digits"),

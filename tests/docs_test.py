@@ -455,8 +455,8 @@ def check_decisions():
 
 # --- lines ----------------------------------------------------------------------------------------
 
-NARROW = ("crates/*/src/*.rt", "include/*", "examples/*", "tools/*", "bench/*", "tests/*.py", "tests/*_test",
-          "tests/c/*", "tests/rv64/*", "tests/difftest/*.rs", ".ci/*", "run")
+NARROW = ("crates/*/src/*.rt", "include/*", "examples/*", "tools/*", "bench/*", "tests/*.py", "tests/*.h",
+          "tests/*_test", "tests/c/*", "tests/rv64/*", "tests/difftest/*.rs", ".ci/*", "run")
 OWN_PLACE = re.compile(r"(?<![\w./])/(?:home|root|opt|srv|work)/")
 
 

@@ -65,10 +65,11 @@ def pairs(path):
         clause = re.sub(r"^\(?(let .*? in )*", "", " ".join(found["clause"].split()))
         equation = re.match(re.escape(found["result"]) + r" ≡ (?:\w+\.)?(\w+)", clause)
         exported = re.match(r"(?:Replies|Leaves) \((\w+)", clause)
+        name = found["name"].removeprefix("simplev_")
         if equation:
-            yield found["name"], equation[1], of_type
-        elif exported and found["name"].startswith("simplev_"):
-            yield found["name"].removeprefix("simplev_"), exported[1], None
+            yield name, equation[1], of_type
+        elif exported and name != found["name"]:
+            yield name, exported[1], None
 
 
 def main():

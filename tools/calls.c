@@ -187,6 +187,15 @@ static bool dump(struct context *c, const uint64_t *n)
     return true;
 }
 
+static bool print_version(struct context *c, const uint64_t *n)
+{
+    const uint32_t version = simplev_version();
+    (void)c;
+    (void)n;
+    printf("version %" PRIu32 ".%" PRIu32 ".%" PRIu32 "\n", version >> 16, version >> 8 & 255, version & 255);
+    return true;
+}
+
 /* --- the forms of a line --- */
 
 struct form {
@@ -227,6 +236,7 @@ static const struct form forms[] = {
     {"poke", "pred", "I N", poke_predicate_entry},
     {"mem", NULL, "ADDRESS BYTE", write_byte},
     {"dump", NULL, "", dump},
+    {"version", NULL, "", print_version},
 };
 #define FORMS (sizeof forms / sizeof forms[0])
 

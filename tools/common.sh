@@ -92,10 +92,14 @@ show_progress() { # SINCE CRATE..
     done
 }
 
+need_toolchain() {
+    command -v rt > /dev/null || fail 'the Rattle toolchain is not installed: there is no rt'
+}
+
 # Proves crates and builds what they are; what the toolchain printed is shown if it fails.
 prove() { # check NAME.. | staticlib NAME
     local folder status=0 watcher
-    command -v rt > /dev/null || fail 'the Rattle toolchain is not installed: there is no rt'
+    need_toolchain
     lock
     folder=$(mktemp -d)
     trap 'rm -rf "$folder"; exit 130' INT
@@ -129,4 +133,25 @@ library() { # NAME
     is_current "target/staticlib/lib$1.a" && return
     lock
     is_current "target/staticlib/lib$1.a" || build_library "$1"
+}
+
+# The bytes of an object's or archive's sections, by what they hold.
+section_sizes() { # FILE [CROSS]
+    "${2-}size" -A "$1" | awk '
+        /^\.text/ { text += $2 } /^\.s?rodata/ { constant += $2 } /^\.[st]?(data|bss)/ { data += $2 }
+        END { printf "code %d bytes, constants %d bytes, data %d bytes\n", text, constant, data }'
+}
+
+# The names that an archive needs from outside.
+needed_names() { # ARCHIVE [CROSS]
+    "${2-}nm" -u "$1" | awk '$1 == "U" { print $2 }' | sort | xargs
+}
+
+# Stops unless an archive is what include/simplev.h says: it needs memset alone, and has code but no data.
+self_contained() { # ARCHIVE [CROSS]
+    local names sizes
+    names=$(needed_names "$@")
+    [ "$names" = memset ] || fail "$1 needs more from outside than memset, or less: $names"
+    sizes=$(section_sizes "$@")
+    [[ $sizes = 'code '[1-9]*', data 0 bytes' ]] || fail "$1 has data of its own, or no code: $sizes"
 }

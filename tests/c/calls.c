@@ -177,8 +177,18 @@ static void out_of_shape(void)
     CHECK(memcmp(&m, &before, sizeof m) == 0);
 }
 
+/* The archive is that of the header, whose text and numbers say the same. */
+static void version(void)
+{
+    char text[32];
+    snprintf(text, sizeof text, "%d.%d.%d", SIMPLEV_VERSION_MAJOR, SIMPLEV_VERSION_MINOR, SIMPLEV_VERSION_PATCH);
+    CHECK(strcmp(text, SIMPLEV_VERSION) == 0);
+    CHECK(simplev_version() == SIMPLEV_VERSION_NUMBER);
+}
+
 int main(void)
 {
+    version();
     fresh();
     settings();
     readings();

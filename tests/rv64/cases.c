@@ -6,29 +6,10 @@
 #include <stdlib.h>
 #include <string.h>
 
+#include "../random.h"
 #include "simplev.h"
 
 #define MEMORY 512
-
-static uint64_t state;
-
-static uint64_t any(void) /* xorshift64* */
-{
-    state ^= state >> 12;
-    state ^= state << 25;
-    state ^= state >> 27;
-    return state * 0x2545F4914F6CDD1DULL;
-}
-
-static uint64_t below(uint64_t bound)
-{
-    return (any() >> 11) % bound;
-}
-
-static int percent(unsigned chance)
-{
-    return below(100) < chance;
-}
 
 static uint64_t hash;
 
@@ -212,7 +193,7 @@ int main(int count, char **words)
         fprintf(stderr, "usage: cases COUNT SEED\n");
         return 2;
     }
-    state = strtoull(words[2], NULL, 10) * 2 + 1;
+    random_state = strtoull(words[2], NULL, 10) * 2 + 1;
     for (unsigned long i = strtoul(words[1], NULL, 10); i > 0; i--)
         one_case();
     return 0;

@@ -2,3 +2,4 @@
 pub mod reading;
 pub mod running;
 pub mod setting;
+pub mod version;
