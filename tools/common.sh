@@ -135,6 +135,22 @@ library() { # NAME
     is_current "target/staticlib/lib$1.a" || build_library "$1"
 }
 
+# The toolchain's own clang, which compiles what is proved.
+kit_clang() {
+    need_toolchain
+    local kit=${RATTLE_HOME:-$(dirname "$(dirname "$(readlink -f "$(command -v rt)")")")}
+    echo "$kit/on/$(uname -m)/toolchain/bin/clang"
+}
+
+# A page with a table put between its markers, `<!-- NAME: .. -->` and `<!-- end of NAME -->`.
+with_table() { # PAGE NAME TABLE
+    { grep -q "^<!-- $2: .* -->$" "$1" && grep -qx "<!-- end of $2 -->" "$1"; } || fail "$1 has no place for $2"
+    awk -v name="$2" -v table="$3" '
+        $0 == "<!-- end of " name " -->" { inside = 0 }
+        !inside { print }
+        index($0, "<!-- " name ": ") == 1 { inside = 1; while ((getline line < table) > 0) print line }' "$1"
+}
+
 # The bytes of an object's or archive's sections, by what they hold.
 section_sizes() { # FILE [CROSS]
     "${2-}size" -A "$1" | awk '
