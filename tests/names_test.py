@@ -16,19 +16,20 @@ VERBS = {
     "decode": "decoded",
     "load": "loaded",
     "locate": "located",
-    "resolve": "resolved",
     "sign_extend": "signExtended",
 }
 
 # Contracts that are an expression, by the name with which it begins.
 EXPRESSIONS = {
-    "byte", "funct3", "getD", "lookUp", "lowBits", "min", "n", "ofZ", "self", "set", "toZ", "withRegisters", "words",
+    "byte", "funct3", "getD", "lookUp", "lowBits", "min", "n", "ofZ", "self", "set", "sourcesUnmasked", "toZ",
+    "withRegisters", "words",
 }
 
 # One of several functions with one contract, and contracts of several clauses.
 OTHERS = {
     ("load_value_as", "loadValue"),
     ("arithmetic_shift_word", "signExtended"),
+    ("by_value", "Operation"),
     ("store", "storeAnswer"),
     ("put", "storeAnswer"),
     ("new", "tally"),

@@ -74,20 +74,39 @@ static void put_row(const char *table, const char *name, uint64_t n, const uint6
     put_counts(counts, HANDLERS);
 }
 
+/* A run of the state that stands. */
+static void put_run(const struct bench *b, const char *title, unsigned vl)
+{
+    uint64_t counts[HANDLERS];
+    count(title, b->word, b->allowance, 1, SIMPLEV_DONE, counts);
+    put_row("runs", title, vl, counts);
+}
+
+/* The entries above those of the case have keys that it doesn't name: 10 to 23. */
+static void fill_tables(void)
+{
+    for (unsigned i = 2; i < SIMPLEV_ENTRIES; i++) {
+        start.register_table[i] = (uint16_t)(0x80 | (i + 8));
+        start.predicate_table[i] = (uint16_t)(0x100 | (i + 8) << 11);
+    }
+}
+
 static void runs(void)
 {
     static const unsigned lengths[] = { 1, 4, 16, 64 };
-    uint64_t counts[HANDLERS];
     for (size_t c = 0; c < CASES; c++)
         for (int i = 0; i < 4; i++) {
             start_case(&cases[c], lengths[i]);
-            count(cases[c].title, cases[c].word, cases[c].allowance, 1, SIMPLEV_DONE, counts);
-            put_row("runs", cases[c].title, lengths[i], counts);
+            put_run(&cases[c], cases[c].title, lengths[i]);
         }
+    for (int i = 0; i < 4; i += 3) {
+        start_case(&cases[0], lengths[i]);
+        fill_tables();
+        put_run(&cases[0], "ADD, full tables", lengths[i]);
+    }
     start_case(&cases[0], 64);
     start.control[SIMPLEV_CFG] = 31;
-    count("ADD, CFG 31", cases[0].word, cases[0].allowance, 1, SIMPLEV_DONE, counts);
-    put_row("runs", "ADD, CFG 31 (no entry enabled)", 64, counts);
+    put_run(&cases[0], "ADD, CFG 31 (no entry enabled)", 64);
 }
 
 static void by_allowance(const struct bench *b)

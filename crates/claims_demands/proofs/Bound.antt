@@ -22,11 +22,11 @@ use Rattle.walk_accesses.specs.Storing.{storeUnit, storeElement}
 use Rattle.walk_plans.specs.Plan.{operationPlan, movePlan, loadPlan, storePlan}
 use Rattle.walk_handler.specs.Prepare.{Plan, operation, move, load, store, prepared}
 use Rattle.walk_handler.specs.Unit.{unitOf}
+use Rattle.walk_handler.proofs.Served.{served-plan}
 use Rattle.machine.proofs.Handled.{position-within}
 use Rattle.machine.specs.Run.{System, contextOf, positionOf, wordOn, unit, run}
 use Rattle.claims_demands.specs.Cuts.{NeverPauses}
 use Rattle.bits.proofs.Booleans.{by-cond}
-use Rattle.claims_demands.proofs.Preparing.{served-plan}
 use Rattle.claims_demands.proofs.Systems.{PlanOf, plan-of, plan-kept}
 use Rattle.claims_demands.proofs.Advance.{counted, operation-rises, transfer-rises}
 use Rattle.claims_demands.proofs.Cuts.{no-refusal-pauses}

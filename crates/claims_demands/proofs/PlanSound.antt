@@ -26,9 +26,9 @@ use Rattle.walk_accesses.specs.Storing.{storeElement, storeUnit, storedTo}
 use Rattle.walk_plans.specs.Plan.{operationPlan, movePlan, loadPlan, storePlan}
 use Rattle.walk_handler.specs.Prepare.{Plan, operation, move, load, store, prepared}
 use Rattle.walk_handler.specs.Unit.{unitOf}
+use Rattle.walk_handler.proofs.Served.{served-plan}
 use Rattle.claims_demands.specs.Premise.{MayWrite}
 use Rattle.claims_demands.proofs.RegistersKept.{unwritten, one-written}
-use Rattle.claims_demands.proofs.Preparing.{served-plan}
 use Rattle.claims_demands.proofs.Units.{UnitSound, operation-sound}
 use Rattle.claims_demands.proofs.TransferUnits.{transfer-sound, TransferKept}
 
@@ -65,7 +65,7 @@ module _ (Writes : ℕ → Type 0) (c : Context) where
 module _ (vl : ℕ) (registers : List ℕ) (c : Context) (within : Within vl (c .position)) where
   pub unit-sound :
       (word : Decoded) (plan : Plan) → prepared vl registers word ≡ ready plan →
-      UnitSound vl (MayWrite vl word) (c .registers) (unitOf plan c)
+      UnitSound (MayWrite vl word) (c .registers) (unitOf plan c)
   unfolding prepared
   unit-sound (Operation w) plan e =
       rw (served-plan vl (Operation w) (operation (operationPlan vl registers w)) plan e)

@@ -19,19 +19,10 @@ use Rattle.decode.specs.declared.decoded.Decoded.the-variants.{Operation, Move,
 use Rattle.tables.specs.Entry.{predicateEntry}
 use Rattle.walk_operands.specs.Mask.{maskBy}
 use Rattle.walk_pausable.specs.Call.{refused, ready}
-use Rattle.walk_plans.specs.Operands.{operandsOf, defaultWidth, fitting, checkedOperands, checked}
+use Rattle.walk_plans.specs.Operands.{operandsOf, defaultWidth, fitting, checkedOperands}
 use Rattle.walk_plans.specs.Plan.{operationPlan, movePlan, loadPlan, storePlan}
 use Rattle.walk_handler.specs.Prepare.{Plan, served, prepared}
 use Rattle.claims_demands.specs.Premise.{IsMask}
-
--- the plan of a served word is the one made for it
-pub served-plan : (vl : ℕ) (word : Decoded) (made plan : Plan) → served vl word made ≡ ready plan → plan ≡ made
-unfolding served
-served-plan vl word made plan = by (accepts (checked vl word)) (checked vl word)
-  where
-    by : (t : Bool) (a : Answer) → cond t (ready made) (refused a) ≡ ready plan → plan ≡ made
-    by true a e = cc
-    by false a e = let z : _≡_ {A = ℕ} 0 1 = cc in absurd (omega arith)
 
 module _ (registers again : List ℕ) where
   abbrev SameAt : ResolvedOperand → Type 0

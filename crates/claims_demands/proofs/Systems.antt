@@ -17,6 +17,7 @@ use Rattle.walk_handler.specs.Unit.{unitOf}
 use Rattle.machine.specs.declared.Machine.{Machine}
 use Rattle.machine.specs.Shape.{inShape}
 use Rattle.machine.specs.Run.{System, contextOf, withPosition, wordOn, prepare, unit}
+use Rattle.walk_handler.proofs.Offsets.{plan-within}
 use Rattle.machine.proofs.Handled.{position-within}
 use Rattle.machine.proofs.Shapes.{parts, in-shape}
 use Rattle.claims_demands.specs.Premise.{MayWrite}
@@ -77,8 +78,8 @@ module _ (word : ℕ) (s : System) where
 
   pub sound-on :
       (plan : Plan) → PlanOf word plan s →
-      UnitSound (s .machine .state .vl) (MayWrite (s .machine .state .vl) (wordOn word (s .machine)))
-      (s .machine .registers) (unitOf plan (contextOf s))
+      UnitSound (MayWrite (s .machine .state .vl) (wordOn word (s .machine))) (s .machine .registers)
+      (unitOf plan (contextOf s))
   sound-on plan k =
       unit-sound (s .machine .state .vl) (k .registers) (contextOf s) (position-within (s .machine) (k .shaped))
       (wordOn word (s .machine)) plan (k .planned)
@@ -90,7 +91,9 @@ module _ (word : ℕ) (s : System) where
       let u = sound-on plan k in
       record {
         shaped =
-            position-kept (s .machine) (k .shaped) (unitOf plan (contextOf s) .state) (u .within)
+            position-kept (s .machine) (k .shaped) (unitOf plan (contextOf s) .state)
+            (plan-within (s .machine .state .vl) (k .registers) (contextOf s) (position-within (s .machine) (k .shaped))
+            (wordOn word (s .machine)) plan (k .planned))
             (u .kept .zero-register (parts (s .machine) (k .shaped) .zero-register));
         registers = k .registers;
         planned = k .planned;

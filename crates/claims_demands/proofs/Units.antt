@@ -1,10 +1,9 @@
--- What holds of every unit, whatever it answers: the registers that it leaves, its offsets and its answers.
+-- What holds of every unit, whatever it answers: the registers that it leaves, and its answers.
 use Prim.Native.Nat.{ℕ, _+_, _<_, _≤_}
 use mathlib.Core.Path.{_≡_, refl, sym}
-use mathlib.Core.Bool.{Bool, true, true≢false}
+use mathlib.Core.Bool.{true, true≢false}
 use mathlib.Core.List.{List}
 use native.Mathlib.Omega.{arith}
-use borrow.Author.Tests.{ltb-true}
 use lib.Dec.{ltb}
 use Rattle.answers.specs.declared.Answer.{Answer}
 use Rattle.answers.specs.declared.Answer.the-variants.{Paused}
@@ -15,9 +14,8 @@ use Rattle.walk_pausable.specs.Outcome.{Outcome}
 use Rattle.walk_operations.specs.declared.position.Position.{Position}
 use Rattle.walk_operations.specs.declared.position.Ran.{Ran}
 use Rattle.walk_operations.specs.declared.operation.OperationPlan.{OperationPlan}
-use Rattle.walk_operations.specs.Context.{Context, outcomeOf, ended, onward, faulted}
+use Rattle.walk_operations.specs.Context.{Context, ended, faulted}
 use Rattle.walk_operations.specs.Operation.{elementOf, registersAfter, goOn, afterOn, positionAfter, operationUnit}
-use Rattle.walk_transfers.specs.SidesReady.{Within}
 use Rattle.bits.proofs.Booleans.{by-cond}
 use Rattle.claims_demands.specs.Run.{refuses}
 use Rattle.claims_demands.proofs.RegistersKept.{RegistersKept, unwritten, one-written}
@@ -31,56 +29,33 @@ pub record Walked (a : Answer) : Type 0 where
 pub paused-walked : Walked Paused
 paused-walked = record { most = omega arith; serves = λ e. true≢false (sym e); value = λ f. refl }
 
-pub record RanSound (vl : ℕ) (ran : Ran) : Type 0 where
-  pub answer : Walked (ran .answer)
-  pub within : Within vl (ran .position)
-
 -- `Writes` says which registers may be written
-pub record UnitSound (vl : ℕ) (Writes : ℕ → Type 0) (registers : List ℕ) (o : Outcome Answer Context) : Type 0 where
+pub record UnitSound (Writes : ℕ → Type 0) (registers : List ℕ) (o : Outcome Answer Context) : Type 0 where
   pub answer : Walked (o .answer)
-  pub within : Within vl (o .state .position)
   pub kept : RegistersKept Writes registers (o .state .registers)
 
-module _ (vl : ℕ) (position : Position) where
-  pub ended-sound : (bytes : ℕ) → 0 < vl → RanSound vl (ended bytes position)
-  ended-sound bytes h = record {
-    answer = record { most = omega arith; serves = λ e. true≢false (sym e); value = λ f. refl };
-    within = record { source = h; destination = h };
-  }
+-- a way to come out
+abbrev pub RanSound : Ran → Type 0
+RanSound ran = Walked (ran .answer)
 
-  pub onward-sound : (i j : ℕ) → i < vl → j < vl → RanSound vl (onward position i j)
-  onward-sound i j h k = record { answer = paused-walked; within = record { source = h; destination = k } }
+module _ (position : Position) where
+  pub ended-sound : (bytes : ℕ) → RanSound (ended bytes position)
+  ended-sound bytes = record { most = omega arith; serves = λ e. true≢false (sym e); value = λ f. refl }
 
-  pub faulted-sound : (address i j : ℕ) → i < vl → j < vl → RanSound vl (faulted address position i j)
-  faulted-sound address i j h k = record {
-    answer = record { most = omega arith; serves = λ e. true≢false (sym e); value = λ f. absurd (f refl) };
-    within = record { source = h; destination = k };
-  }
+  pub faulted-sound : (address i j : ℕ) → RanSound (faulted address position i j)
+  faulted-sound address i j =
+      record { most = omega arith; serves = λ e. true≢false (sym e); value = λ f. absurd (f refl) }
 
-module _ {vl : ℕ} {Writes : ℕ → Type 0} {registers : List ℕ} where
-  pub sound-outcome :
-      {ran : Ran} {after : List ℕ} → RanSound vl ran → RegistersKept Writes registers after → (memory : List ℕ) →
-      UnitSound vl Writes registers (outcomeOf ran after memory)
-  sound-outcome r k memory = record { answer = r .answer; within = r .within; kept = k }
-
-module _ (vl : ℕ) (position : Position) (i : ℕ) (h : i < vl) where
-  go-on-sound : RanSound vl (goOn vl position i)
+  go-on-sound : (vl i : ℕ) → RanSound (goOn vl position i)
   unfolding goOn
-  go-on-sound =
-      by-cond (RanSound vl) (ltb (i + 1) vl)
-      (λ e. let l = ltb-true (i + 1) vl e in onward-sound vl position (i + 1) (i + 1) l l)
-      (λ e. ended-sound vl position 4 (omega arith))
+  go-on-sound vl i = by-cond RanSound (ltb (i + 1) vl) (λ e. paused-walked) (λ e. ended-sound 4)
 
-  after-on-sound : (vector : Bool) → RanSound vl (afterOn vl vector position i)
-  unfolding afterOn
-  after-on-sound vector = by-cond (RanSound vl) vector (λ e. go-on-sound) (λ e. ended-sound vl position 4 (omega arith))
-
-position-sound :
-    (p : OperationPlan) (position : Position) (i : ℕ) → i < p .vl → RanSound (p .vl) (positionAfter p position i)
-unfolding positionAfter
-position-sound p position i h =
-    by-cond (RanSound (p .vl)) (isOn (p .mask) i)
-    (λ e. after-on-sound (p .vl) position i h (p .destination .vector)) (λ e. go-on-sound (p .vl) position i h)
+  position-sound : (p : OperationPlan) (i : ℕ) → RanSound (positionAfter p position i)
+  unfolding positionAfter afterOn
+  position-sound p i =
+      by-cond RanSound (isOn (p .mask) i)
+      (λ e. by-cond RanSound (p .destination .vector) (λ f. go-on-sound (p .vl) i) (λ f. ended-sound 4))
+      (λ e. go-on-sound (p .vl) i)
 
 registers-sound :
     (p : OperationPlan) (Writes : ℕ → Type 0) (registers : List ℕ) (i : ℕ) → Writes (registerAt (p .destination) i) →
@@ -97,9 +72,11 @@ registers-sound p Writes registers i w =
 pub operation-sound :
     (p : OperationPlan) (Writes : ℕ → Type 0) (c : Context) → c .position .destination < p .vl →
     ((i : ℕ) → i < p .vl → Writes (registerAt (p .destination) i)) →
-    UnitSound (p .vl) Writes (c .registers) (operationUnit p c)
+    UnitSound Writes (c .registers) (operationUnit p c)
 unfolding operationUnit
 operation-sound p Writes c h writes =
     let i = c .position .destination in
-    sound-outcome (position-sound p (c .position) i h) (registers-sound p Writes (c .registers) i (writes i h))
-    (c .memory)
+    record {
+      answer = position-sound (c .position) p i;
+      kept = registers-sound p Writes (c .registers) i (writes i h);
+    }

@@ -15,7 +15,7 @@ use Rattle.encoding.specs.declared.form.Form.{Form}
 use Rattle.encoding.specs.declared.form.Form.the-variants as form
 use Rattle.encoding.specs.Fields.{rd, rs1, rs2, shiftAmount, wordShiftAmount, immediate, storeImmediate, compressedRs2}
 use Rattle.encoding.specs.Listing.{formOf}
-use Rattle.decode.specs.Resolving.{resolved}
+use Rattle.decode.specs.Resolving.{resolved, unmasked}
 
 module _ (operand : ℕ → ResolvedOperand) (word : ℕ) where
   abbrev pub operationWith : Operator → SecondOperand → Decoded
@@ -63,3 +63,21 @@ unfoldable pub decoded : ℕ → ℕ → List ℕ → List ℕ → Decoded
 decoded word cfg registerTable predicateTable =
     let operand = resolved cfg registerTable predicateTable in
     cond (eqb (bits 1 0 word) 0b11) (decodedAs operand word (formOf word)) (compressedMove operand word)
+
+abbrev pub secondUnmasked : SecondOperand → SecondOperand
+secondUnmasked (second.Register n) = second.Register (unmasked n)
+secondUnmasked (second.Immediate value) = second.Immediate value
+
+-- Only the destination's mask counts in an operation, so that nothing is lost without those of its sources.
+abbrev pub sourcesUnmasked : Decoded → Decoded
+sourcesUnmasked (Operation w) =
+    Operation (record {
+      operator = w .operator;
+      destination = w .destination;
+      first = unmasked (w .first);
+      second = secondUnmasked (w .second);
+    })
+sourcesUnmasked (Move w) = Move w
+sourcesUnmasked (Load w) = Load w
+sourcesUnmasked (Store w) = Store w
+sourcesUnmasked Unknown = Unknown

@@ -1,3 +1,4 @@
 pub mod Resolving
 pub mod Decoding
+pub mod Forms
 pub mod Examples

@@ -31,13 +31,21 @@ abbrev pub predicateBy : Held → List ℕ → ℕ
 predicateBy (At i) entries = getD entries i 0
 predicateBy Nothing entries = 0
 
+-- an operand by the register entry that holds for its key, and the word of a predicate entry
+abbrev pub resolvedBy : Held → List ℕ → ℕ → ℕ → ResolvedOperand
+resolvedBy held registerTable key predicate = record {
+  operand = operandBy held registerTable key;
+  width = widthBy held registerTable;
+  predicate = predicate;
+}
+
 -- The key is the register number written in the instruction, for both tables.
 unfoldable pub resolved : ℕ → List ℕ → List ℕ → ℕ → ResolvedOperand
 resolved cfg registerTable predicateTable key =
     let range = enabledRange cfg in
-    let registerHeld = heldEntry table.Register registerTable range key in
-    record {
-      operand = operandBy registerHeld registerTable key;
-      width = widthBy registerHeld registerTable;
-      predicate = predicateBy (heldEntry table.Predicate predicateTable range key) predicateTable;
-    }
+    resolvedBy (heldEntry table.Register registerTable range key) registerTable key
+    (predicateBy (heldEntry table.Predicate predicateTable range key) predicateTable)
+
+-- an operand as if no predicate entry held for it
+abbrev pub unmasked : ResolvedOperand → ResolvedOperand
+unmasked n = record { operand = n .operand; width = n .width; predicate = 0 }

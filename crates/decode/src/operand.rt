@@ -2,8 +2,8 @@
 ghost use mathlib.Core.Path.{_≡_};
 ghost use Prim.Native.Nat.{_≤_};
 ghost use Rattle.search.specs.Search.{heldEntry};
-ghost use Rattle.search.specs.declared.Table.the-variants.{Predicate};
-ghost use Rattle.decode.specs.Resolving.{resolved, predicateBy, redirected};
+ghost use Rattle.search.specs.declared.Table.the-variants.{Register, Predicate};
+ghost use Rattle.decode.specs.Resolving.{resolvedBy, predicateBy, redirected};
 use crate::decoded::Operand;
 use crate::decoded::ResolvedOperand;
 use search::Held;
@@ -11,11 +11,10 @@ use search::Table;
 use search::held_entry;
 use tables::ENTRIES;
 use tables::enabled::Range;
-use tables::enabled::enabled_range;
 use tables::entry::RegisterEntry;
 
 // The word of the predicate entry that holds for a key, 0 where none does.
-fn predicate_by(entries: &[u16; ENTRIES], range: Range, key: u8) -> u16
+pub(crate) fn predicate_by(entries: &[u16; ENTRIES], range: Range, key: u8) -> u16
     requires { ⌜ range .end ≤ 16 ⌝ }
     ensures { λ r. ⌜
         (let words = now (entries .entry) in
@@ -39,20 +38,22 @@ fn redirected(entry: RegisterEntry) -> Operand
     }
 }
 
-// What a register number names under a CFG and the two tables.
-pub fn resolve<'a>(
+// What a register number names by the register table, with the word of a predicate entry.
+pub(crate) fn resolved_by(
+    entries: &[u16; ENTRIES],
+    range: Range,
     key: u8,
-    cfg: u32,
-    register_table: &'a [u16; ENTRIES],
-    predicate_table: &'a [u16; ENTRIES],
+    predicate: u16,
 ) -> ResolvedOperand
-    ensures { λ r. ⌜ r ≡ resolved cfg (now («register_table» .entry)) (now («predicate_table» .entry)) key ⌝ }
+    requires { ⌜ range .end ≤ 16 ⌝ }
+    ensures { λ r. ⌜
+        (let words = now (entries .entry) in
+        r ≡ resolvedBy (heldEntry Register words range key) words key predicate)
+        ⌝ }
 {
-    let range = enabled_range(cfg);
-    let predicate = predicate_by(predicate_table, range, key);
-    match held_entry(Table::Register, register_table, range, key) {
+    match held_entry(Table::Register, entries, range, key) {
         Held::At(i) => {
-            let entry = RegisterEntry::of(register_table[i]);
+            let entry = RegisterEntry::of(entries[i]);
             ResolvedOperand {
                 operand: redirected(entry),
                 width: entry.width,

@@ -21,8 +21,8 @@ impl Machine {
     {
         let position = Position {
             pc: self.pc,
-            source: self.state.source,
-            destination: self.state.destination,
+            source: self.state.source as usize,
+            destination: self.state.destination as usize,
         };
         let decoded = decode(
             word,
@@ -40,8 +40,8 @@ impl Machine {
         );
         let after = ran.position;
         self.pc = after.pc;
-        self.state.source = after.source;
-        self.state.destination = after.destination;
+        self.state.source = after.source as u32;
+        self.state.destination = after.destination as u32;
         let answer = ran.answer;
         Reply {
             answer,

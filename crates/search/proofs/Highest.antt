@@ -1,17 +1,17 @@
 -- The search from the highest index down.
-use Prim.Native.Nat.{ℕ, zero, suc, _+_, _-_, _≤_, _<_}
+use Prim.Native.Nat.{ℕ, zero, suc, _-_, _≤_, _<_}
 use mathlib.Core.Path.{_≡_, refl, sym, _∙_, ap}
-use mathlib.Core.Bool.{Bool, true, false, not, _&&_, and-false}
+use mathlib.Core.Bool.{Bool, true, false, and-false}
 use mathlib.Core.List.{List}
-use lib.Dec.{ltb}
+use lib.Dec.{eqb, ltb}
 use lib.ListN.{getD}
 use native.Mathlib.Omega.{arith}
-use borrow.Author.Tests.{not-true, lt-ltb, le-ltb, le-leb, lt-leb, ltb-true, ltb-false}
+use borrow.Author.Tests.{lt-ltb, le-ltb, le-leb, lt-leb, ltb-true, ltb-false, eqb-true, eqb-false}
 use Rattle.search.specs.declared.Table.{Table}
+use Rattle.search.specs.declared.Table.the-variants.{Register, Predicate}
 use Rattle.search.specs.declared.Held.the-variants.{At, Nothing}
 use Rattle.tables.specs.declared.enabled.Range.{Range}
-use Rattle.search.specs.Search.{entryAnswers, candidate, highest, heldEntry, NoneAnswers}
-use Rattle.bits.proofs.Booleans.{and-left, and-right}
+use Rattle.search.specs.Search.{entryAnswers, candidate, highest, heldEntry}
 
 module _ (test : ℕ → Bool) where
   highest-yes : (i : ℕ) → 0 < i → test (i - 1) ≡ true → highest test i ≡ At (i - 1)
@@ -42,27 +42,10 @@ module _ (test : ℕ → Bool) where
       by true e next = let z : suc n ≡ low = omega (arith, ltb-true n low e) in ap (highest test) z
       by false e next = let l = ltb-false n low e in rw (none n l (omega arith)) (next l)
 
--- one entry more that doesn't answer
-pub none-more : (table : Table) (entries : List ℕ) (key first n : ℕ) (none answer : Bool) →
-    answer ≡ entryAnswers table key (getD entries (first + n) 0) →
-    (none ≡ true → NoneAnswers table entries key first (first + n)) →
-    none && not answer ≡ true → NoneAnswers table entries key first (first + (n + 1))
-none-more table entries key first n none answer said before h k l b = by (ltb k (first + n)) refl
-  where
-    by : (t : Bool) → ltb k (first + n) ≡ t → entryAnswers table key (getD entries k 0) ≡ false
-    by true e = before (and-left _ _ h) k l (ltb-true k (first + n) e)
-    by false e =
-        let last : k ≡ first + n = omega (arith, ltb-false k (first + n) e) in
-        rw last (sym said ∙ not-true answer (and-right none _ h))
-
-pub none-joined : (table : Table) (entries : List ℕ) (key first middle end : ℕ) →
-    NoneAnswers table entries key first middle → NoneAnswers table entries key middle end →
-    NoneAnswers table entries key first end
-none-joined table entries key first middle end lower upper k l b = by (ltb k middle) refl
-  where
-    by : (t : Bool) → ltb k middle ≡ t → entryAnswers table key (getD entries k 0) ≡ false
-    by true e = lower k l (ltb-true k middle e)
-    by false e = upper k (ltb-false k middle e) b
+highest-same : (test other : ℕ → Bool) → ((k : ℕ) → test k ≡ other k) → (n : ℕ) → highest test n ≡ highest other n
+unfolding highest
+highest-same test other same zero = refl
+highest-same test other same (suc n) = rw (same n, highest-same test other same n)
 
 module _ (table : Table) (entries : List ℕ) (range : Range) (key : ℕ) where
   abbrev answers : ℕ → Bool
@@ -87,15 +70,9 @@ module _ (table : Table) (entries : List ℕ) (range : Range) (key : ℕ) where
   unfolding candidate
   silent k e = rw (e, and-false)
 
-  held-start : range .end ≤ 16 → heldEntry table entries range key ≡ highest holds (range .end)
+  pub held-start : range .end ≤ 16 → heldEntry table entries range key ≡ highest holds (range .end)
   unfolding heldEntry
   held-start low = highest-skip holds (range .end) 16 low (λ k h b. outside-high k h)
-
-  -- the search may start below entries that don't answer
-  pub held-below :
-      range .end ≤ 16 → (i : ℕ) → i ≤ range .end → NoneAnswers table entries key i (range .end) →
-      heldEntry table entries range key ≡ highest holds i
-  held-below low i h none = held-start low ∙ highest-skip holds i (range .end) h (λ k l b. silent k (none k l b))
 
   pub held-none : (i : ℕ) → i ≤ range .first → highest holds i ≡ Nothing
   held-none i h = highest-none holds i (λ k l. outside-low k (omega arith))
@@ -106,3 +83,39 @@ module _ (table : Table) (entries : List ℕ) (range : Range) (key : ℕ) where
 
     pub held-no : answers (i - 1) ≡ false → highest holds i ≡ highest holds (i - 1)
     held-no e = highest-no holds i (omega arith) (inside (i - 1) (omega arith) (omega arith) ∙ e)
+
+-- an empty entry answers to no key
+empty-silent : (table : Table) (key : ℕ) → entryAnswers table key 0 ≡ false
+unfolding entryAnswers
+empty-silent Register key = refl
+empty-silent Predicate key = refl
+
+module _ (table : Table) (entries : List ℕ) (first end : ℕ) (empty : getD entries (end - 1) 0 ≡ 0) (key : ℕ) where
+  abbrev shorter : Range
+  shorter = record { first = first; end = end - 1 }
+
+  abbrev longer : Range
+  longer = record { first = first; end = end }
+
+  ltb-same : (k : ℕ) → (k ≡ end - 1 → ⊥) → ltb k (end - 1) ≡ ltb k end
+  ltb-same k other = by (ltb k (end - 1)) refl
+    where
+      by : (t : Bool) → ltb k (end - 1) ≡ t → ltb k (end - 1) ≡ ltb k end
+      by true e = rw (e, lt-ltb k end (omega (arith, ltb-true k (end - 1) e)))
+      by false e = rw (e, le-ltb k end (omega (arith, ltb-false k (end - 1) e, other)))
+
+  same-candidate : (k : ℕ) → candidate table entries shorter key k ≡ candidate table entries longer key k
+  same-candidate k = by (eqb k (end - 1)) refl
+    where
+      by : (t : Bool) → eqb k (end - 1) ≡ t → candidate table entries shorter key k ≡ candidate table entries longer key k
+      by true e =
+          let quiet : entryAnswers table key (getD entries k 0) ≡ false =
+          rw (eqb-true k (end - 1) e, empty) (empty-silent table key)
+          in
+          silent table entries shorter key k quiet ∙ sym (silent table entries longer key k quiet)
+      by false e = unfold candidate in rw (ltb-same k (eqb-false k (end - 1) e))
+
+  -- the last entry of a range makes no difference where it is empty
+  pub held-shorter : heldEntry table entries shorter key ≡ heldEntry table entries longer key
+  unfolding heldEntry
+  held-shorter = highest-same _ _ same-candidate 16

@@ -1,10 +1,10 @@
 // The entry that holds for a key: the same search in both tables.
-ghost use Prim.Native.Nat.{_+_, _≤_};
+ghost use Prim.Native.Nat.{_≤_};
 ghost use mathlib.Core.Path.{_≡_};
-ghost use mathlib.Core.Bool.{true};
-ghost use Rattle.search.specs.Search.{entryAnswers, heldEntry, NoneAnswers};
+ghost use Rattle.search.specs.Search.{entryAnswers, heldEntry, FindsEnabled};
 use tables::ENTRIES;
 use tables::enabled::Range;
+use tables::enabled::enabled_range;
 
 pub enum Table {
     Register,
@@ -33,42 +33,35 @@ pub fn entry_answers(table: Table, key: u8, word: u16) -> bool
     }
 }
 
-// Whether none of the eight entries from an index on answers: one comparison of all eight.
-fn none_of_eight(table: Table, entries: &[u16; ENTRIES], key: u8, first: usize) -> bool
-    requires { ⌜ first ≤ 8 ⌝ }
-    ensures { λ r. ⌜ (r ≡ true → NoneAnswers table (now (entries .entry)) key first (first + 8)) ⌝ }
+// The enabled entries up to the last that isn't empty in both tables. Most tables have few entries, and an empty one
+// answers to no key.
+pub fn used_range<'a>(
+    cfg: u32,
+    register_table: &'a [u16; ENTRIES],
+    predicate_table: &'a [u16; ENTRIES],
+) -> Range
+    ensures { λ r. ⌜ FindsEnabled cfg (now («register_table» .entry)) (now («predicate_table» .entry)) r ⌝ }
 {
-    let mut none = true;
-    let mut n: usize = 0;
-    while n < 8 {
-        none = none & !entry_answers(table, key, entries[first + n]);
-        n += 1;
+    let range = enabled_range(cfg);
+    let mut end = range.end;
+    while range.first < end {
+        if (register_table[end - 1] != 0) | (predicate_table[end - 1] != 0) {
+            break;
+        }
+        end -= 1;
     }
-    none
+    Range {
+        first: range.first,
+        end,
+    }
 }
 
-// An index from which on no entry below `end` answers. Most tables have few entries, so that most searches end here.
-fn reach(table: Table, entries: &[u16; ENTRIES], key: u8, end: usize) -> usize
-    requires { ⌜ end ≤ 16 ⌝ }
-    ensures { λ r. ⌜ (r ≤ end) × NoneAnswers table (now (entries .entry)) key r end ⌝ }
-{
-    if none_of_eight(table, entries, key, 8) {
-        if none_of_eight(table, entries, key, 0) {
-            return 0;
-        }
-        if 8 < end {
-            return 8;
-        }
-    }
-    end
-}
-
-// The entry of an enabled range that holds for a key.
+// The entry of a range that holds for a key.
 pub fn held_entry(table: Table, entries: &[u16; ENTRIES], range: Range, key: u8) -> Held
     requires { ⌜ range .end ≤ 16 ⌝ }
     ensures { λ r. ⌜ r ≡ heldEntry table (now (entries .entry)) range key ⌝ }
 {
-    let mut i = reach(table, entries, key, range.end);
+    let mut i = range.end;
     while range.first < i {
         i -= 1;
         if entry_answers(table, key, entries[i]) {

@@ -6,10 +6,11 @@ use Rattle.answers.specs.declared.Answer.{Answer}
 use Rattle.answers.specs.declared.Answer.the-variants.{OutOfShape}
 use Rattle.walk_pausable.specs.Outcome.{Outcome}
 use Rattle.decode.specs.declared.decoded.Decoded.{Decoded}
-use Rattle.decode.specs.Decoding.{decoded}
+use Rattle.decode.specs.Decoding.{decoded, sourcesUnmasked}
 use Rattle.state_word.specs.declared.State.{State}
 use Rattle.walk_operations.specs.Context.{Context, context}
 use Rattle.walk_handler.specs.Unit.{handled}
+use Rattle.walk_handler.proofs.Sources.{sources-unmasked}
 use Rattle.machine.specs.Shape.{inShape}
 use Rattle.machine.specs.Run.{System, withContext, run}
 use Rattle.machine.proofs.Handled.{putBack, run-handled, run-refused}
@@ -24,10 +25,10 @@ module _ (word n : ℕ) (s : System) {a v : ℕ} where
   pub leaves-run :
       (read : State) (d : Decoded) (o : Outcome Answer Context) → inShape (s .machine) ≡ true →
       read ≡ s .machine .state →
-      d ≡ decoded word (read .cfg) (s .machine .«register_table») (s .machine .«predicate_table») →
+      d ≡ sourcesUnmasked (decoded word (read .cfg) (s .machine .«register_table») (s .machine .«predicate_table»)) →
       o ≡ handled (read .vl) d n
       (context (s .machine .registers) (s .memory)
       (record { pc = s .machine .pc; source = read .source; destination = read .destination })) →
       Says (o .answer) a v → Leaves (run word n s) a v (withContext s (o .state))
   leaves-run read d o h same e ran said =
-      leaves (ap (putBack s) (ran ∙ rw (e, same)) ∙ sym (run-handled word n s h)) said
+      leaves (ap (putBack s) (ran ∙ rw (e, sources-unmasked, same)) ∙ sym (run-handled word n s h)) said

@@ -61,8 +61,8 @@ pub extern "C" fn simplev_run<'a>(
     let state = state_of(control);
     let position = Position {
         pc: control[PC],
-        source: state.source,
-        destination: state.destination,
+        source: state.source as usize,
+        destination: state.destination as usize,
     };
     let decoded = decode(word, state.cfg, register_table, predicate_table);
     let ran = walk_handler::run(decoded, state.vl, position, allowance, registers, memory);

@@ -32,7 +32,7 @@ pub(crate) fn address_at(
     offset: u64,
     width: Width,
     registers: &[u64; REGISTERS],
-    i: u32,
+    i: usize,
 ) -> u64
     requires { ⌜ (registerAt place i < 128) × (i < 64) ⌝ }
     ensures { λ r. ⌜ r ≡ addressAt place offset width (now (registers .entry)) i ⌝ }
@@ -113,7 +113,7 @@ impl LoadPlan {
             ⌝ }
     {
         let mut current = position;
-        let mut remaining = allowance;
+        let mut remaining = allowance as usize;
         while 0 < remaining {
             let ran = self.unit(current, registers, memory);
             let answer = ran.answer;

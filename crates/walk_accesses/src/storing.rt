@@ -75,7 +75,7 @@ impl StorePlan {
             ⌝ }
     {
         let mut current = position;
-        let mut remaining = allowance;
+        let mut remaining = allowance as usize;
         while 0 < remaining {
             let ran = self.unit(current, registers, memory);
             let answer = ran.answer;

@@ -1,1 +1,4 @@
 pub mod Handled
+pub mod Served
+pub mod Offsets
+pub mod Sources

@@ -30,7 +30,7 @@ pub fn mask_by(predicate: u16, registers: &[u64; REGISTERS]) -> Mask
 }
 
 impl Mask {
-    pub fn is_on(self, i: u32) -> bool
+    pub fn is_on(self, i: usize) -> bool
         requires { ⌜ i < 64 ⌝ }
         ensures { λ r. ⌜ r ≡ isOn self i ⌝ }
     {

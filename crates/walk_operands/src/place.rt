@@ -34,12 +34,12 @@ pub fn place_of(n: ResolvedOperand) -> Place
 
 impl Place {
     // The register of a position.
-    pub fn at(self, i: u32) -> usize
+    pub fn at(self, i: usize) -> usize
         requires { ⌜ registerAt self i < 128 ⌝ }
         ensures { λ r. ⌜ r ≡ registerAt self i ⌝ }
     {
         if self.vector {
-            self.register + i as usize
+            self.register + i
         } else {
             self.register
         }

@@ -29,24 +29,25 @@ pub register-at :
 register-at second p vl i e f h = fits-at vl p i h (rw e at f)
 
 -- a unit, from what each of its steps gives
-module _ (p : OperationPlan) (registers : List ℕ) (position : Position) (on : Bool) (to : ℕ) (ran : Ran)
-    (after : List ℕ) (test : on ≡ isOn (p .mask) (position .destination))
-    (place : to ≡ registerAt (p .destination) (position .destination))
+module _ (p : OperationPlan) (registers : List ℕ) (position : Position) (on : Bool) (ran : Ran) (after : List ℕ)
+    (test : on ≡ isOn (p .mask) (position .destination))
   where
     pub unit-on :
-        (value : ℕ) → on ≡ true → value ≡ elementOf p registers (position .destination) →
-        after ≡ written registers to value →
+        (value to : ℕ) → on ≡ true → value ≡ elementOf p registers (position .destination) →
+        to ≡ registerAt (p .destination) (position .destination) → after ≡ written registers to value →
         ran ≡ afterOn (p .vl) (p .destination .vector) position (position .destination) →
         WithAnyMemory (operationUnit p) registers position ran after
     unfolding operationUnit positionAfter registersAfter
-    unit-on value o v w r memory = rw (sym test ∙ o, r, w, v, place)
+    unit-on value to o v place w r memory = rw (sym test ∙ o, r, w, v, place)
 
     pub unit-off :
-        on ≡ false → after ≡ cond (p .mask .zeroing) (written registers to 0) registers →
+        on ≡ false →
+        after
+        ≡ cond (p .mask .zeroing) (written registers (registerAt (p .destination) (position .destination)) 0) registers →
         ran ≡ goOn (p .vl) position (position .destination) →
         WithAnyMemory (operationUnit p) registers position ran after
     unfolding operationUnit positionAfter registersAfter
-    unit-off o w r memory = rw (sym test ∙ o, r, w, place)
+    unit-off o w r memory = rw (sym test ∙ o, r, w)
 
 module _ (vl : ℕ) (vector : Bool) (position : Position) (i : ℕ) (ran : Ran) where
   pub after-vector : vector ≡ true → ran ≡ goOn vl position i → ran ≡ afterOn vl vector position i

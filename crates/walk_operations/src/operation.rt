@@ -21,7 +21,7 @@ pub enum SecondPlace {
 }
 
 pub struct OperationPlan {
-    pub vl: u32,
+    pub vl: usize,
     pub operator: Operator,
     pub destination: Place,
     pub mask: Mask,
@@ -30,7 +30,7 @@ pub struct OperationPlan {
 }
 
 // The second operand at a position.
-fn second_at(second: SecondPlace, registers: &[u64; REGISTERS], vl: u32, i: u32) -> u64
+fn second_at(second: SecondPlace, registers: &[u64; REGISTERS], vl: usize, i: usize) -> u64
     requires { ⌜ SecondFits vl second × (i < vl) ⌝ }
     ensures { λ r. ⌜ r ≡ secondAt second (now (registers .entry)) i ⌝ }
 {
@@ -41,7 +41,7 @@ fn second_at(second: SecondPlace, registers: &[u64; REGISTERS], vl: u32, i: u32)
 }
 
 // On from a position that is done.
-fn go_on(vl: u32, position: Position, i: u32) -> Ran
+fn go_on(vl: usize, position: Position, i: usize) -> Ran
     requires { ⌜ i < 64 ⌝ }
     ensures { λ r. ⌜ r ≡ goOn vl position i ⌝ }
 {
@@ -54,7 +54,7 @@ fn go_on(vl: u32, position: Position, i: u32) -> Ran
 
 impl OperationPlan {
     // What a position computes.
-    fn element(self, registers: &[u64; REGISTERS], i: u32) -> u64
+    fn element(self, registers: &[u64; REGISTERS], i: usize) -> u64
         requires { ⌜ OperationReady self × (i < self .vl) ⌝ }
         ensures { λ r. ⌜ r ≡ elementOf self (now (registers .entry)) i ⌝ }
     {
@@ -74,9 +74,9 @@ impl OperationPlan {
             ⌝ }
     {
         let i = position.destination;
-        let to = self.destination.at(i);
         if self.mask.is_on(i) {
             let value = self.element(registers, i);
+            let to = self.destination.at(i);
             write_within(registers, to, value);
             if self.destination.vector {
                 return go_on(self.vl, position, i);
@@ -84,6 +84,7 @@ impl OperationPlan {
             return position.ended(4);
         }
         if self.mask.zeroing {
+            let to = self.destination.at(i);
             write_within(registers, to, 0);
         }
         go_on(self.vl, position, i)
@@ -98,7 +99,7 @@ impl OperationPlan {
             ⌝ }
     {
         let mut current = position;
-        let mut remaining = allowance;
+        let mut remaining = allowance as usize;
         while 0 < remaining {
             let ran = self.unit(current, registers);
             let answer = ran.answer;

@@ -5,8 +5,8 @@ use answers::Answer;
 
 pub struct Position {
     pub pc: u64,
-    pub source: u32,
-    pub destination: u32,
+    pub source: usize,
+    pub destination: usize,
 }
 
 // An answer, and where the instruction stands after it.
@@ -17,7 +17,7 @@ pub struct Ran {
 
 impl Position {
     // An instruction that goes on at a pair of positions.
-    pub fn onward(mut self, source: u32, destination: u32) -> Ran
+    pub fn onward(mut self, source: usize, destination: usize) -> Ran
         ensures { λ r. ⌜ r ≡ onward self source destination ⌝ }
     {
         self.source = source;
@@ -29,7 +29,7 @@ impl Position {
     }
 
     // A fault at a pair of positions: the program counter stays where it is.
-    pub fn faulted(self, address: u64, source: u32, destination: u32) -> Ran
+    pub fn faulted(self, address: u64, source: usize, destination: usize) -> Ran
         ensures { λ r. ⌜ r ≡ faulted address self source destination ⌝ }
     {
         Ran {

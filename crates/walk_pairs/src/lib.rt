@@ -14,20 +14,20 @@ pub struct Side {
 }
 
 pub enum Pair {
-    Found(u32, u32),
+    Found(usize, usize),
     End,
 }
 
 impl Side {
     // Where a side starts, by its offset.
-    pub fn start(self, offset: u32) -> u32
+    pub fn start(self, offset: usize) -> usize
         ensures { λ r. ⌜ r ≡ start self offset ⌝ }
     {
         if self.walks { offset } else { 0 }
     }
 
     // Where a side goes from a position.
-    pub fn next(self, i: u32) -> u32
+    pub fn next(self, i: usize) -> usize
         requires { ⌜ i < 64 ⌝ }
         ensures { λ r. ⌜ r ≡ next self i ⌝ }
     {
@@ -35,7 +35,7 @@ impl Side {
     }
 
     // Whether a side has reached VL.
-    pub fn past(self, vl: u32, i: u32) -> bool
+    pub fn past(self, vl: usize, i: usize) -> bool
         ensures { λ r. ⌜ r ≡ past self vl i ⌝ }
     {
         if !self.walks {
@@ -46,7 +46,7 @@ impl Side {
 }
 
 // The next position that is on, on both sides.
-pub fn find_pair(source: Side, destination: Side, vl: u32, i0: u32, j0: u32) -> Pair
+pub fn find_pair(source: Side, destination: Side, vl: usize, i0: usize, j0: usize) -> Pair
     requires { ⌜ (vl ≤ 64) × (i0 < vl) × (j0 < vl) ⌝ }
     ensures { λ r. ⌜ r ≡ pairFrom source destination vl i0 j0 ⌝ }
 {

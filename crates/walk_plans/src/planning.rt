@@ -36,7 +36,7 @@ pub fn operation_plan(word: OperationWord, vl: u32, registers: &[u64; REGISTERS]
     let first = word.first;
     let second = word.second;
     OperationPlan {
-        vl,
+        vl: vl as usize,
         operator,
         destination: place_of(destination),
         mask: mask_by(destination.predicate, registers),
@@ -64,7 +64,7 @@ pub fn move_plan(word: MoveWord, vl: u32, registers: &[u64; REGISTERS]) -> Sides
     let destination = word.destination;
     let to = side_of(destination, false, registers);
     Sides {
-        vl,
+        vl: vl as usize,
         source: side_of(source, false, registers),
         destination: to,
         single: !to.place.vector,
@@ -80,7 +80,7 @@ pub fn load_plan(word: LoadWord, vl: u32, registers: &[u64; REGISTERS]) -> LoadP
     let to = side_of(destination, false, registers);
     LoadPlan {
         sides: Sides {
-            vl,
+            vl: vl as usize,
             source: side_of(address, true, registers),
             destination: to,
             single: !to.place.vector,
@@ -101,7 +101,7 @@ pub fn store_plan(word: StoreWord, vl: u32, registers: &[u64; REGISTERS]) -> Sto
     let to = side_of(address, true, registers);
     StorePlan {
         sides: Sides {
-            vl,
+            vl: vl as usize,
             source: from,
             destination: to,
             single: !from.place.vector & !to.place.vector,

@@ -1,22 +1,22 @@
 -- How a unit of a move, a load or a store comes out, whatever its transfer is.
 use Prim.Native.Nat.{ℕ, _<_}
-use mathlib.Core.Bool.{Bool, true, false, cond, _||_, true≢false}
+use mathlib.Core.Bool.{_||_}
 use mathlib.Core.List.{List}
 use mathlib.Core.Path.{_≡_, refl, sym, _∙_}
 use native.Mathlib.Omega.{arith}
+use Rattle.bits.proofs.Booleans.{by-cond, or-false}
 use Rattle.answers.specs.declared.Answer.{Answer}
-use Rattle.answers.specs.Answer.{pauses}
+use Rattle.walk_pausable.specs.Outcome.{Outcome}
+use Rattle.walk_operations.specs.declared.position.Ran.{Ran}
 use Rattle.walk_operands.specs.Place.{registerAt}
 use Rattle.walk_operands.proofs.Fits.{fits-at}
 use Rattle.walk_pairs.specs.declared.Pair.{Pair}
 use Rattle.walk_pairs.specs.declared.Pair.the-variants.{Found, End}
 use Rattle.walk_pairs.specs.Side.{next, past}
 use Rattle.walk_pairs.proofs.Found.{pair-in, start-in, next-in}
-use Rattle.walk_pausable.specs.Outcome.{Outcome}
 use Rattle.walk_operations.specs.declared.position.Position.{Position}
-use Rattle.walk_operations.specs.declared.position.Ran.{Ran}
 use Rattle.walk_transfers.specs.declared.sides.Sides.{Sides}
-use Rattle.walk_operations.specs.Context.{Context, outcomeOf, ended, onward, faulted}
+use Rattle.walk_operations.specs.Context.{Context, outcomeOf, ended, faulted}
 use Rattle.walk_transfers.specs.SidesReady.{SidesReady, Within}
 use Rattle.walk_transfers.specs.Transfer.{Transferred, moved, outside}
 use Rattle.walk_transfers.specs.Transfer.{pairOf, afterPair, afterTransfer, atPair, transferUnit}
@@ -44,27 +44,21 @@ reached s position p i j ready within said found =
       j-below = omega (arith, below .1, ready .most);
     }
 
--- a way to come out that pauses only where both offsets are below VL
-abbrev PausesWithin : ℕ → Ran → Type 0
-PausesWithin vl r = pauses (r .answer) ≡ true → Within vl (r .position)
-
 after-within :
     (s : Sides) (bytes : ℕ) (position : Position) (i j : ℕ) → 0 < s .vl →
-    PausesWithin (s .vl) (afterPair s bytes position i j)
+    Within (s .vl) (afterPair s bytes position i j .position)
 unfolding afterPair
 after-within s bytes position i j h =
-    by (s .single) (past (s .source) (s .vl) (next (s .source) i))
-    (past (s .destination) (s .vl) (next (s .destination) j))
-    (next-in (s .source) (s .vl) i h) (next-in (s .destination) (s .vl) j h)
-  where
-    by :
-        (t u v : Bool) → (u ≡ false → next (s .source) i < s .vl) → (v ≡ false → next (s .destination) j < s .vl) →
-        PausesWithin (s .vl)
-        (cond (t || u || v) (ended bytes position) (onward position (next (s .source) i) (next (s .destination) j)))
-    by true u v f g = unfold pauses in (λ e. absurd (true≢false (sym e)))
-    by false true v f g = unfold pauses in (λ e. absurd (true≢false (sym e)))
-    by false false true f g = unfold pauses in (λ e. absurd (true≢false (sym e)))
-    by false false false f g = λ e. record { source = f refl; destination = g refl }
+    let one = past (s .source) (s .vl) (next (s .source) i) in
+    let two = past (s .destination) (s .vl) (next (s .destination) j) in
+    by-cond (λ (r : Ran). Within (s .vl) (r .position)) (s .single || one || two)
+    (λ e. record { source = h; destination = h })
+    (λ e.
+    let f = or-false (s .single || one) two e in
+    record {
+      source = next-in (s .source) (s .vl) i h (or-false (s .single) one (f .0) .1);
+      destination = next-in (s .destination) (s .vl) j h (f .1);
+    })
 
 module _ (s : Sides) (bytes : ℕ) (transfer : Context → ℕ → ℕ → Transferred) (c : Context) where
   module _ (p : Pair) (said : p ≡ pairOf s (c .position)) where
@@ -86,21 +80,27 @@ module _ (s : Sides) (bytes : ℕ) (transfer : Context → ℕ → ℕ → Trans
       unfolding transferUnit atPair afterTransfer
       unit-outside address e = rw (sym said ∙ found, e)
 
-  -- a unit that pauses leaves both offsets below VL
+  -- a unit leaves both offsets below VL, whatever it answers
   pub unit-within :
       Within (s .vl) (c .position) → (o : Outcome Answer Context) → o ≡ transferUnit s bytes transfer c →
-      pauses (o .answer) ≡ true → Within (s .vl) (o .state .position)
+      Within (s .vl) (o .state .position)
   unfolding transferUnit
-  unit-within within o same = rw same (by (pairOf s (c .position)))
+  unit-within within o same = rw same (by (pairOf s (c .position)) refl)
     where
-      Fine : Outcome Answer Context → Type 0
-      Fine o = pauses (o .answer) ≡ true → Within (s .vl) (o .state .position)
+      least : 0 < s .vl
+      least = omega (arith, within .source)
 
-      at : (i j : ℕ) (t : Transferred) → Fine (afterTransfer s bytes c i j t)
-      at i j (moved registers memory) =
-          unfold afterTransfer in after-within s bytes (c .position) i j (omega (arith, within .source))
-      at i j (outside address) = unfold afterTransfer pauses in (λ e. absurd (true≢false (sym e)))
+      at :
+          (i j : ℕ) → i < s .vl → j < s .vl → (t : Transferred) →
+          Within (s .vl) (afterTransfer s bytes c i j t .state .position)
+      at i j h k (moved registers memory) =
+          unfold afterTransfer in after-within s bytes (c .position) i j least
+      at i j h k (outside address) = unfold afterTransfer in record { source = h; destination = k }
 
-      by : (p : Pair) → Fine (atPair s bytes (transfer c) c p)
-      by End = unfold atPair pauses in (λ e. absurd (true≢false (sym e)))
-      by (Found i j) = unfold atPair in at i j (transfer c i j)
+      by : (p : Pair) → pairOf s (c .position) ≡ p → Within (s .vl) (atPair s bytes (transfer c) c p .state .position)
+      by End e = unfold atPair in record { source = least; destination = least }
+      by (Found i j) e = unfold atPair pairOf in
+          let source = start-in (s .source) (s .vl) _ (within .source) in
+          let destination = start-in (s .destination) (s .vl) _ (within .destination) in
+          let b = pair-in (s .source) (s .destination) (s .vl) _ _ i j source destination e in
+          at i j (b .0) (b .1) (transfer c i j)

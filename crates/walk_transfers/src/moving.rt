@@ -46,7 +46,7 @@ impl Sides {
             ⌝ }
     {
         let mut current = position;
-        let mut remaining = allowance;
+        let mut remaining = allowance as usize;
         while 0 < remaining {
             let ran = self.move_unit(current, registers);
             let answer = ran.answer;

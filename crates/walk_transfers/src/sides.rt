@@ -12,7 +12,7 @@ use walk_pairs::find_pair;
 
 // `single` where the instruction ends after its first element.
 pub struct Sides {
-    pub vl: u32,
+    pub vl: usize,
     pub source: Side,
     pub destination: Side,
     pub single: bool,
@@ -30,7 +30,7 @@ impl Sides {
     }
 
     // On from a pair whose element is moved, or the end of an instruction of some bytes.
-    pub fn after(self, position: Position, bytes: u64, i: u32, j: u32) -> Ran
+    pub fn after(self, position: Position, bytes: u64, i: usize, j: usize) -> Ran
         requires { ⌜ (i < 64) × (j < 64) ⌝ }
         ensures { λ r. ⌜ r ≡ afterPair self bytes position i j ⌝ }
     {

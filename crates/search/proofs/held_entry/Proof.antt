@@ -1,8 +1,8 @@
-use Prim.Native.Nat.{_≤_, _-_}
+use Prim.Native.Nat.{_≤_}
 use mathlib.Core.Path.{_≡_, sym, _∙_}
 use native.Mathlib.Omega.{arith}
 use borrow.Author.Needs.{needs}
-use Rattle.search.proofs.Highest.{held-below, held-yes, held-no, held-none}
+use Rattle.search.proofs.Highest.{held-start, held-yes, held-no, held-none}
 use Rattle.search.specs.Search.{candidate, highest, heldEntry}
 use Rattle.search.proofs.held_entry.Statement.{statement}
 use Rattle.search.proofs.held_entry.Tie as tie
@@ -15,15 +15,13 @@ abbrev μ-loop : tie.MeasureT-loop
 μ-loop table entries range key i₀ i = i
 
 loop-holds : tie.Need-loop-holds Inv-loop μ-loop
-loop-holds c =
-    let below = c .reach .ensures in
-    (below .0, held-below _ _ _ _ (c .before .pre) _ (below .0) (below .1))
+loop-holds c = (omega arith, held-start _ _ _ _ (c .pre))
 
 mul-entry-answers : tie.Need-mul-entry-answers Inv-loop μ-loop
-mul-entry-answers c = omega (arith, c .before .before .before .before .pre)
+mul-entry-answers c = omega (arith, c .before .before .before .pre)
 
 element-copy-out-entry-answers : tie.Need-element-copy-out-entry-answers Inv-loop μ-loop
-element-copy-out-entry-answers c = omega (arith, c .before .before .before .before .pre)
+element-copy-out-entry-answers c = omega (arith, c .before .before .before .pre)
 
 returns : tie.Need-returns Inv-loop μ-loop
 returns c =
@@ -48,5 +46,5 @@ returns-2 c = sym (c .before .before .loop .inv .1 ∙ held-none _ _ _ _ (c .bef
 pub held-entry-spec : {M : Type 1} → statement M
 held-entry-spec =
     tie.close
-    (tie.spec Inv-loop μ-loop (λ c κs. search needs) loop-holds (λ c. search needs) mul-entry-answers
+    (tie.spec Inv-loop μ-loop loop-holds (λ c. search needs) mul-entry-answers
     element-copy-out-entry-answers (λ c κs. search needs) returns (λ c. search needs) loop-again returns-2)

@@ -14,20 +14,20 @@ returns c =
 
 run-requires : tie.Need-run-requires
 run-requires c κs =
-    let read = c .before .before .before .before in
+    let read = c .before .before .before .before .before .before in
     let test = read .before .before in
     let shaped = holds (test .before .in-shape .ensures) (test .if1 .left) in
     rw (all-bits (read .state-of .ensures) (parts _ shaped .state)) (vl-most _ shaped, position-within _ shaped)
 
 -- where the run has come back
 abbrev came-back : tie.After-control → tie.After-after
-came-back c = c .before .before .before .before .before .before
+came-back c = c .before .before .before .before
 
 returns-2 : tie.Need-returns-2
 returns-2 c =
     let ran = came-back (c .before .before) .before .before .before in
     let decoded = ran .before .before .before in
-    let read = decoded .before .before in
+    let read = decoded .before .before .before .before in
     let test = read .before .before in
     let shaped = holds (test .before .in-shape .ensures) (test .if1 .left) in
     leaves-run _ _ _ _ _ _ shaped (all-bits (read .state-of .ensures) (parts _ shaped .state))
@@ -37,5 +37,5 @@ pub simplev-run-spec : {M : Type 1} → statement M
 simplev-run-spec =
     tie.close
     (tie.spec (λ c κs. search needs) (λ c κs. search needs) returns (λ c κs. search needs) (λ c. search needs)
-    (λ c κs. search needs) run-requires (λ c. search needs) (λ c. search needs) (λ c. search needs)
-    (λ c. search needs) (λ c. search needs) (λ c κs. search needs) (λ c. search needs) returns-2)
+    (λ c. search needs) (λ c. search needs) (λ c κs. search needs) run-requires (λ c. search needs) (λ c. search needs)
+    (λ c. search needs) (λ c κs. search needs) (λ c. search needs) returns-2)

@@ -49,7 +49,7 @@ loop-again c =
     let u = p .before .before .before in
     let l = u .before .before .before in
     let paused = sym (p .pauses .ensures) ∙ not-false _ (c .before .if1 .left) in (
-      unit-within _ _ _ _ (l .loop .inv .0) _ (u .unit .ensures) paused,
+      unit-within _ _ _ _ (l .loop .inv .0) _ (u .unit .ensures),
       u .unit .kept .1 .1 .1 .0 ∙ l .loop .inv .1,
       walk-more _ _ _ _ _ (u .before .before .loop-test .taken) (u .unit .ensures) paused ∙ l .loop .inv .2,
     )

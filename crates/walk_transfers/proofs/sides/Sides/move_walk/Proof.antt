@@ -46,7 +46,7 @@ loop-again c =
     let u = p .before in
     let l = u .before .before .before in
     let paused = sym (p .pauses .ensures) ∙ not-false _ (c .before .if1 .left) in (
-      unit-within _ _ _ _ (l .loop .inv .0) _ (u .move-unit .ensures []) paused,
+      unit-within _ _ _ _ (l .loop .inv .0) _ (u .move-unit .ensures []),
       λ memory.
           walk-more _ _ _ _ _ (u .before .before .loop-test .taken) (u .move-unit .ensures memory) paused
           ∙ l .loop .inv .1 memory,
