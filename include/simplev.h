@@ -2,7 +2,7 @@
  *
  * The caller owns a machine, `struct simplev_machine`, and a memory of bytes, and lends both to each call, which works
  * on them in place. The library keeps nothing and allocates nothing, and needs nothing from outside but `memset`. Built
- * for RV64 with other flags it may need more, as `memcpy` with -Os, which tools/rv64 prints.
+ * for RV64 with other flags it may need more; tools/rv64 prints what.
  *
  * Link with libsimplev.a: for x86-64 `rt staticlib simplev` writes target/staticlib/libsimplev.a, for RV64 `tools/rv64`
  * writes target/rv64/libsimplev.a, and `tools/install` puts both where pkg-config finds them.

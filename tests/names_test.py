@@ -29,7 +29,7 @@ EXPRESSIONS = {
 OTHERS = {
     ("load_value_as", "loadValue"),
     ("arithmetic_shift_word", "signExtended"),
-    ("by_value", "Operation"),
+    ("immediate", "Operation"),
     ("store", "storeAnswer"),
     ("put", "storeAnswer"),
     ("new", "tally"),

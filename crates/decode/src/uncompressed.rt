@@ -98,8 +98,8 @@ fn operation(
     })
 }
 
-// An operation whose second operand is a value.
-fn by_value(
+// An operation whose second operand is an immediate.
+fn immediate(
     operator: Operator,
     destination: ResolvedOperand,
     first: ResolvedOperand,
@@ -174,9 +174,9 @@ fn decoded_as<'a>(
             let rs2 = resolved_by(register_table, range, fields::rs2(word), 0);
             operation(operator, one, two, SecondOperand::Register(rs2))
         }
-        Form::Immediate(operator) => by_value(operator, one, two, fields::immediate(word)),
-        Form::Shift(operator) => by_value(operator, one, two, fields::shift_amount(word)),
-        Form::WordShift(operator) => by_value(operator, one, two, fields::word_shift_amount(word)),
+        Form::Immediate(operator) => immediate(operator, one, two, fields::immediate(word)),
+        Form::Shift(operator) => immediate(operator, one, two, fields::shift_amount(word)),
+        Form::WordShift(operator) => immediate(operator, one, two, fields::word_shift_amount(word)),
         Form::Load(width) => load(one, two, word, width, true),
         Form::LoadUnsigned(width) => load(one, two, word, width, false),
         Form::Store(width) => Decoded::Store(StoreWord {

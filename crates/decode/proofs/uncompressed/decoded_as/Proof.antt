@@ -95,21 +95,21 @@ unfolding decodedAs
 returns-2 c =
     let a = c .before .before .before .before .before in
     operation-made a _ (c .before .before .before .form2 .given .1) _ (Immediate (immediate (word a))) refl refl refl
-    (ap Immediate (c .before .immediate .ensures)) (c .by-value .ensures)
+    (ap Immediate (c .before .immediate .ensures)) (c .immediate2 .ensures)
 
 returns-3 : tie.Need-returns-3
 unfolding decodedAs
 returns-3 c =
     let a = c .before .before .before .before .before in
     operation-made a _ (c .before .before .before .form3 .given .1) _ (Immediate (shiftAmount (word a))) refl refl refl
-    (ap Immediate (c .before .shift-amount .ensures)) (c .by-value2 .ensures)
+    (ap Immediate (c .before .shift-amount .ensures)) (c .immediate3 .ensures)
 
 returns-4 : tie.Need-returns-4
 unfolding decodedAs
 returns-4 c =
     let a = c .before .before .before .before .before in
     operation-made a _ (c .before .before .before .form4 .given .1) _ (Immediate (wordShiftAmount (word a))) refl refl refl
-    (ap Immediate (c .before .word-shift-amount .ensures)) (c .by-value3 .ensures)
+    (ap Immediate (c .before .word-shift-amount .ensures)) (c .immediate4 .ensures)
 
 returns-5 : tie.Need-returns-5
 unfolding decodedAs
