@@ -21,6 +21,8 @@ static const struct bench {
     { "LD", "LD", 0x0083b283, 0, 65535 },
     { "SD", "SD", 0x0053b423, 0, 65535 },
     { "slices", "ADD, slices of 4", 0x007302b3, 0, 4 }, /* four elements a call */
+    { "MUL", "MUL", 0x027302b3, 0, 65535 },
+    { "MULHU", "MULHU", 0x027332b3, 0, 65535 },
 };
 
 #define CASES (sizeof cases / sizeof *cases)

@@ -61,7 +61,37 @@ static uint64_t sext(uint32_t v)
     return (uint64_t)(int64_t)(int32_t)v;
 }
 
-/* by funct3, 8 more for SUB and arithmetic shifts, 16 more for a W form */
+/* The high half of a product, from the four products of halves: for a core without a wide multiplication. */
+static uint64_t high(uint64_t a, uint64_t b)
+{
+    uint64_t al = (uint32_t)a, ah = a >> 32, bl = (uint32_t)b, bh = b >> 32;
+    uint64_t cross = ah * bl, middle;
+    __asm__("" : "+r"(cross)); /* clang would make one wide multiplication of the four */
+    middle = (al * bl >> 32) + (uint32_t)cross + al * bh;
+    return ah * bh + (cross >> 32) + (middle >> 32);
+}
+
+/* What a negative factor a takes off the high half: it stands for 2^64 more than it is. */
+static uint64_t excess(uint64_t a, uint64_t b)
+{
+    return a >> 63 ? b : 0;
+}
+
+static uint64_t quotient_of(int64_t a, int64_t b)
+{
+    if (b == 0)
+        return ~0ull;
+    return b == -1 ? 0 - (uint64_t)a : (uint64_t)(a / b);
+}
+
+static uint64_t remainder_of(int64_t a, int64_t b)
+{
+    if (b == 0)
+        return (uint64_t)a;
+    return b == -1 ? 0 : (uint64_t)(a % b);
+}
+
+/* by funct3, 8 more for SUB and arithmetic shifts, 16 more for a W form, 32 more for RV64M */
 static uint64_t compute(unsigned op, uint64_t a, uint64_t b)
 {
     switch (op) {
@@ -79,7 +109,20 @@ static uint64_t compute(unsigned op, uint64_t a, uint64_t b)
     case 17: return sext((uint32_t)a << (b & 31));
     case 21: return sext((uint32_t)a >> (b & 31));
     case 24: return sext((uint32_t)a - (uint32_t)b);
-    default: return sext((uint32_t)((int32_t)a >> (b & 31)));
+    case 29: return sext((uint32_t)((int32_t)a >> (b & 31)));
+    case 32: return a * b;
+    case 33: return high(a, b) - excess(a, b) - excess(b, a);
+    case 34: return high(a, b) - excess(a, b);
+    case 35: return high(a, b);
+    case 36: return quotient_of((int64_t)a, (int64_t)b);
+    case 37: return b ? a / b : ~0ull;
+    case 38: return remainder_of((int64_t)a, (int64_t)b);
+    case 39: return b ? a % b : a;
+    case 48: return sext((uint32_t)a * (uint32_t)b);
+    case 52: return sext((uint32_t)quotient_of((int32_t)a, (int32_t)b));
+    case 53: return (uint32_t)b ? sext((uint32_t)a / (uint32_t)b) : ~0ull;
+    case 54: return sext((uint32_t)remainder_of((int32_t)a, (int32_t)b));
+    default: return sext((uint32_t)b ? (uint32_t)a % (uint32_t)b : (uint32_t)a);
     }
 }
 
@@ -94,7 +137,8 @@ static int operation(struct machine *m, uint32_t word, uint16_t allowance)
 {
     int immediate = !(word >> 5 & 1);
     unsigned f = word >> 12 & 7, alt = (word >> 30 & 1) && (!immediate || f == 5);
-    unsigned op = (word >> 3 & 1) << 4 | alt << 3 | f;
+    unsigned multiply = !immediate && (word >> 25 & 1);
+    unsigned op = multiply << 5 | (word >> 3 & 1) << 4 | alt << 3 | f;
     struct operand d = name(m, word >> 7 & 31), a = name(m, word >> 15 & 31), b = { 0, 0 };
     struct mask k = mask_of(m, word >> 7 & 31);
     uint64_t value = (uint64_t)(int64_t)((int32_t)word >> 20);

@@ -314,7 +314,7 @@ def number(draw, n):
 
 def random_value(draw):
     return draw.choice([draw.randrange(4), draw.randrange(70), draw.randrange(300), 2**64 - 1 - draw.randrange(20),
-                        draw.getrandbits(64), 2**32 + draw.randrange(70), draw.getrandbits(70)])
+                        draw.getrandbits(64), 2**32 + draw.randrange(70), 2**63, draw.getrandbits(70)])
 
 
 # opcode: its values of funct3
@@ -331,6 +331,8 @@ def random_word(draw):
     opcode = draw.choice(list(OPCODES))
     funct3 = draw.choice(OPCODES[opcode])
     word = opcode | funct3 << 12 | draw.randrange(8) << 7 | draw.randrange(8) << 15 | draw.randrange(8) << 20
+    if opcode in (0x33, 0x3B) and draw.random() < 0.5:
+        return word ^ draw.randrange(8) << 12 | 1 << 25  # of RV64M, but for some of OP-32
     if opcode in (0x33, 0x3B, 0x1B) and funct3 in (0, 5):
         word |= draw.randrange(2) << 30
     return word | (draw.getrandbits(7) << 25 if draw.random() < 0.1 else 0)

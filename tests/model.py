@@ -15,36 +15,65 @@ def word_result(value):
     return sext(value, 32)
 
 
+def low_word(value):
+    return value & 2**32 - 1
+
+
+def signed_word(value):
+    return signed(sext(value, 32))
+
+
+def quotient(a, b):
+    """Of two integers, rounded towards zero; -1 by zero. The most negative by -1 doesn't fit, and wraps to itself."""
+    if b == 0:
+        return -1
+    size = abs(a) // abs(b)
+    return size if (a < 0) == (b < 0) else -size
+
+
+def remainder(a, b):
+    """What the quotient leaves, with the dividend's sign; by zero the dividend."""
+    return a - b * quotient(a, b)
+
+
 OPERATIONS = {
     "add": lambda a, b: a + b, "sub": lambda a, b: a - b, "sll": lambda a, b: a << (b & 63),
     "slt": lambda a, b: int(signed(a) < signed(b)), "sltu": lambda a, b: int(a < b), "xor": lambda a, b: a ^ b,
     "srl": lambda a, b: a >> (b & 63), "sra": lambda a, b: signed(a) >> (b & 63), "or": lambda a, b: a | b,
     "and": lambda a, b: a & b, "addw": lambda a, b: word_result(a + b), "subw": lambda a, b: word_result(a - b),
-    "sllw": lambda a, b: word_result(a << (b & 31)), "srlw": lambda a, b: word_result((a & 0xFFFFFFFF) >> (b & 31)),
-    "sraw": lambda a, b: word_result(signed(sext(a, 32)) >> (b & 31)),
+    "sllw": lambda a, b: word_result(a << (b & 31)), "srlw": lambda a, b: word_result(low_word(a) >> (b & 31)),
+    "sraw": lambda a, b: word_result(signed_word(a) >> (b & 31)),
+    "mul": lambda a, b: a * b, "mulh": lambda a, b: signed(a) * signed(b) >> 64,
+    "mulhsu": lambda a, b: signed(a) * b >> 64, "mulhu": lambda a, b: a * b >> 64,
+    "div": lambda a, b: quotient(signed(a), signed(b)), "divu": quotient,
+    "rem": lambda a, b: remainder(signed(a), signed(b)), "remu": remainder,
+    "mulw": lambda a, b: word_result(a * b),
+    "divw": lambda a, b: word_result(quotient(signed_word(a), signed_word(b))),
+    "divuw": lambda a, b: word_result(quotient(low_word(a), low_word(b))),
+    "remw": lambda a, b: word_result(remainder(signed_word(a), signed_word(b))),
+    "remuw": lambda a, b: word_result(remainder(low_word(a), low_word(b))),
 }
 BY_FUNCT3 = ["add", "sll", "slt", "sltu", "xor", "srl", "or", "and"]
-W_FORMS = {"add", "sll", "srl"}
+RV64M_BY_FUNCT3 = ["mul", "mulh", "mulhsu", "mulhu", "div", "divu", "rem", "remu"]
 
 
 def operation_of(word):
     """Name, and the immediate or None; None for a word that is no operation."""
     opcode, funct3, funct7 = word & 127, word >> 12 & 7, word >> 25
     name, wide = BY_FUNCT3[funct3], opcode in (0x1B, 0x3B)
-    if wide and name not in W_FORMS:
-        return None
     other = {"add": "sub", "srl": "sra"}.get(name)
-    suffix = "w" if wide else ""
+    immediate = None
     if opcode in (0x33, 0x3B):
-        if funct7 == 0:
-            return name + suffix, None
-        return (other + suffix, None) if funct7 == 32 and other else None
-    if name in ("sll", "srl"):
-        top, amount = (funct7, word >> 20 & 31) if wide else (word >> 26, word >> 20 & 63)
-        if top == 0:
-            return name + suffix, amount
-        return (other + suffix, amount) if other == "sra" and top == (32 if wide else 16) else None
-    return name + suffix, sext(word >> 20, 12)
+        name = {0: name, 32: other, 1: RV64M_BY_FUNCT3[funct3]}.get(funct7)
+    elif name in ("sll", "srl"):
+        top, immediate = (funct7, word >> 20 & 31) if wide else (word >> 26, word >> 20 & 63)
+        name = {0: name, 32 if wide else 16: other}.get(top)
+    else:
+        immediate = sext(word >> 20, 12)
+    if name is None:
+        return None
+    name += "w" if wide else ""
+    return (name, immediate) if name in OPERATIONS else None
 
 
 class Machine:

@@ -14,6 +14,8 @@ ROOT = pathlib.Path(__file__).resolve().parents[1]
 VERBS = {
     "compute": "computed",
     "decode": "decoded",
+    "divide": "divided",
+    "divide_words": "wordsDivided",
     "load": "loaded",
     "locate": "located",
     "sign_extend": "signExtended",
@@ -21,8 +23,8 @@ VERBS = {
 
 # Contracts that are an expression, by the name with which it begins.
 EXPRESSIONS = {
-    "byte", "funct3", "getD", "lookUp", "lowBits", "min", "n", "ofZ", "self", "set", "sourcesUnmasked", "toZ",
-    "withRegisters", "words",
+    "a", "byte", "funct3", "getD", "lookUp", "lowBits", "min", "n", "ofZ", "self", "set", "signBit", "sourcesUnmasked",
+    "toZ", "withRegisters", "words",
 }
 
 # One of several functions with one contract, and contracts of several clauses.

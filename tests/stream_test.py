@@ -65,6 +65,20 @@ LINES = [
     ("run sd x7,-8(x6) allow 0", "05 233c73fe 0000"),
     ("run srai x5,x6,63", "05 9352f343 ffff"),
     ("run addi x5,x6,-1", "05 9302f3ff ffff"),
+    ("run mul x5,x6,x7", "05 b3027302 ffff"),
+    ("run mulh x5,x6,x7", "05 b3127302 ffff"),
+    ("run mulhsu x5,x6,x7", "05 b3227302 ffff"),
+    ("run mulhu x31,x31,x31", "05 b3bfff03 ffff"),
+    ("run div x5,x6,x7", "05 b3427302 ffff"),
+    ("run divu x5,x6,x7", "05 b3527302 ffff"),
+    ("run rem x5,x6,x7", "05 b3627302 ffff"),
+    ("run REMU x5,x6,x7 allow 2", "05 b3727302 0200"),
+    ("run mulw x5,x6,x7", "05 bb027302 ffff"),
+    ("run divw x5,x6,x7", "05 bb427302 ffff"),
+    ("run divuw x5,x6,x7", "05 bb527302 ffff"),
+    ("run remw x5,x6,x7", "05 bb627302 ffff"),
+    ("run remuw x5,x6,x7", "05 bb727302 ffff"),
+    ("run 0x027312bb", "05 bb127302 ffff"),
     ("raw 7f ff", "7f ff"),
 ]
 
@@ -108,7 +122,13 @@ ERRORS = [
     ("mem 1_0 1", "address: '1_0' is no number"),
     ("mem 70000 1", "address: 70000 is not within 0 to 65535"),
     ("run", "the instruction is missing"),
-    ("run mul x5,x6,x7", "'mul' is no instruction that is served"),
+    ("run lui x5,6", "'lui' is no instruction that is served"),
+    ("run mulhw x5,x6,x7", "'mulhw' is no instruction that is served"),
+    ("run mulhsuw x5,x6,x7", "'mulhsuw' is no instruction that is served"),
+    ("run mulhuw x5,x6,x7", "'mulhuw' is no instruction that is served"),
+    ("run muli x5,x6,7", "'muli' is no instruction that is served"),
+    ("run mul x5,x6", "mul has 3 operands, not 2"),
+    ("run divu x5,x6,7", "'7' is none of x0 to x31"),
     ("run add", "add has 3 operands, not 0"),
     ("run add x5,x6", "add has 3 operands, not 2"),
     ("run add x5,,x6,x7", "an operand is empty"),
@@ -270,7 +290,7 @@ def random_record(draw):
     body = bytearray(draw.randbytes(stream.BODY[kind]))
     if kind == 5 and draw.random() < 0.7:
         body[0] = body[0] & 0x80 | draw.choice([0x33, 0x3B, 0x13, 0x1B, 0x03, 0x23])
-        body[3] &= draw.choice([0x01, 0x41, 0xFF])
+        body[3] &= draw.choice([0x01, 0x03, 0x41, 0xFF])
     return bytes([kind]) + body
 
 

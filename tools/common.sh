@@ -163,6 +163,15 @@ needed_names() { # ARCHIVE [CROSS]
     "${2-}nm" -u "$1" | awk '$1 == "U" { print $2 }' | sort | xargs
 }
 
+# Stops where an object for RV64 has a wide multiplication, which LLVM makes of some products of halves.
+no_wide_multiplication() { # OBJECT WHAT CROSS
+    local found
+    found=$("${3}objdump" -d --no-show-raw-insn "$1" | awk '
+        /^[0-9a-f]+ <.*>:$/ { name = substr($2, 2, length($2) - 3) }
+        $2 ~ /^mulh(u|su)?$/ && !seen[$2, name]++ { printf "%s%s in %s", sep, $2, name; sep = ", " }')
+    [ -z "$found" ] || fail "$2 has a wide multiplication: $found"
+}
+
 # Stops unless an archive is what include/simplev.h says: it needs memset alone, and has code but no data.
 self_contained() { # ARCHIVE [CROSS]
     local names sizes

@@ -10,7 +10,12 @@ const struct instruction instructions[] = {
     { "XORI", IMMEDIATE, 0x4013 }, { "ORI", IMMEDIATE, 0x6013 }, { "ANDI", IMMEDIATE, 0x7013 },
     { "SLLI", IMMEDIATE, 0x1013 }, { "SRLI", IMMEDIATE, 0x5013 }, { "SRAI", IMMEDIATE, 0x40005013 },
     { "ADDIW", IMMEDIATE, 0x1b }, { "SLLIW", IMMEDIATE, 0x101b }, { "SRLIW", IMMEDIATE, 0x501b },
-    { "SRAIW", IMMEDIATE, 0x4000501b }, { "LB", LOAD, 0x3 }, { "LH", LOAD, 0x1003 }, { "LW", LOAD, 0x2003 },
+    { "SRAIW", IMMEDIATE, 0x4000501b }, { "MUL", REGISTER, 0x2000033 }, { "MULH", REGISTER, 0x2001033 },
+    { "MULHSU", REGISTER, 0x2002033 }, { "MULHU", REGISTER, 0x2003033 }, { "DIV", REGISTER, 0x2004033 },
+    { "DIVU", REGISTER, 0x2005033 }, { "REM", REGISTER, 0x2006033 }, { "REMU", REGISTER, 0x2007033 },
+    { "MULW", REGISTER, 0x200003b }, { "DIVW", REGISTER, 0x200403b }, { "DIVUW", REGISTER, 0x200503b },
+    { "REMW", REGISTER, 0x200603b }, { "REMUW", REGISTER, 0x200703b },
+    { "LB", LOAD, 0x3 }, { "LH", LOAD, 0x1003 }, { "LW", LOAD, 0x2003 },
     { "LD", LOAD, 0x3003 }, { "LBU", LOAD, 0x4003 }, { "LHU", LOAD, 0x5003 }, { "LWU", LOAD, 0x6003 },
     { "SB", STORE, 0x23 }, { "SH", STORE, 0x1023 }, { "SW", STORE, 0x2023 }, { "SD", STORE, 0x3023 },
     { "C.MV", MOVE, 0x8002 },
@@ -48,7 +53,7 @@ static const struct factor {
     [WIDTH] = { "width", 4, WORDS("00", "of x5 01", "of x6 01", "of x7 01") },
     [MEMORY] = { "addresses", 6, WORDS("multiples of 8", "8n+1", "8n+4", "with a fault at the last",
                                        "8n+1 with a fault at the last", "without memory") },
-    [VALUES] = { "values", 4, WORDS("0", "-1", "-2^63", "mixed") },
+    [VALUES] = { "values", 5, WORDS("0", "-1", "-2^63", "mixed", "-2^63, x7 -1") },
     [BASE] = { "x5 at", 3, WORDS("64", "0", "1") },
     [ALLOWANCE] = { "allowance", 2, WORDS("VL", "65535") },
 };
@@ -133,13 +138,15 @@ static uint64_t mask_word(const state s, unsigned operand, unsigned vl)
 /* Values and masks, and addresses for the registers that x6 stands for; gives the size of the memory. */
 static size_t place_values(const state s, unsigned vl)
 {
-    static const uint64_t values[] = { 0, ~0ull, 1ull << 63, 0 };
+    static const uint64_t values[] = { 0, ~0ull, 1ull << 63, 0, 1ull << 63 };
     static const uint8_t unaligned[] = { 0, 1, 4, 0, 1, 0 };
     enum form form = instructions[s[INSTRUCTION]].form;
     unsigned base = base_of(s, s[KEYS] ? 0 : 1), bytes = 1u << (instructions[s[INSTRUCTION]].bits >> 12 & 3);
     int fault = s[MEMORY] == 3 || s[MEMORY] == 4, kind = s[s[KEYS] ? KIND_5 : KIND_6];
     for (unsigned i = 0; i < 128; i++)
         machine.registers[i] = s[VALUES] == 3 ? i * 0x9e3779b97f4a7c15 : values[s[VALUES]];
+    if (s[VALUES] == 4)
+        machine.registers[7] = ~0ull;
     if (form == LOAD || form == STORE) {
         for (unsigned i = 0; i < vl; i++)
             machine.registers[base + i] = 8 * i + unaligned[s[MEMORY]];

@@ -27,6 +27,9 @@ static uint32_t word(void)
         0x00000033, 0x40000033, 0x00001033, 0x00002033, 0x00003033, 0x00004033, 0x00005033, 0x40005033, /* OP */
         0x00006033, 0x00007033, 0x0000003B, 0x4000003B, 0x0000103B, 0x0000503B, 0x4000503B,             /* OP-32 */
         0x00001013, 0x00005013, 0x40005013, 0x0000101B, 0x0000501B, 0x4000501B,                         /* shifts */
+        0x02000033, 0x02001033, 0x02002033, 0x02003033, 0x02004033, 0x02005033, 0x02006033, 0x02007033, /* RV64M */
+        0x0200003B, 0x0200403B, 0x0200503B, 0x0200603B, 0x0200703B, /* its W forms, then words that are none of them */
+        0x0200103B, 0x0200203B, 0x0200303B, 0x06000033, 0x4200403B,
     };
     static const uint32_t immediate_forms[] = {
         0x00000013, 0x00002013, 0x00003013, 0x00004013, 0x00006013, 0x00007013, 0x0000001B, /* OP-IMM */
@@ -55,13 +58,16 @@ static uint32_t word(void)
 
 static uint64_t value(void)
 {
-    switch (below(4)) {
+    static const uint64_t corners[] = {0, ~0ULL, 1ULL << 63, 0x80000000, 0xFFFFFFFF, 0xFFFFFFFF80000000};
+    switch (below(5)) {
     case 0:
         return any();
     case 1:
         return any() | any();
     case 2:
         return (uint64_t)(int64_t)(int32_t)any();
+    case 3:
+        return corners[below(sizeof corners / sizeof *corners)];
     default:
         return below(MEMORY);
     }

@@ -12,7 +12,12 @@ unfolding enabledRange entryAnswers candidate highest heldEntry funct3Rows funct
 examples =
     record {
       add = refl;
-      notMul = refl;
+      mul = refl;
+      notAdd = refl;
+      remuw = refl;
+      notMulhw = refl;
+      notMulhsuw = refl;
+      notMulhuw = refl;
       addi = refl;
       srai = refl;
       notSrai = refl;

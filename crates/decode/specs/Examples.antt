@@ -6,7 +6,7 @@ use mathlib.Core.List.{[], _∷_}
 use Rattle.scalar.specs.declared.width.Width.{Width}
 use Rattle.scalar.specs.declared.width.Width.the-variants.{Word, Double}
 use Rattle.scalar.specs.declared.operator.Operator.{Operator}
-use Rattle.scalar.specs.declared.operator.Operator.the-variants.{Add, Sra}
+use Rattle.scalar.specs.declared.operator.Operator.the-variants.{Add, Sra, Mul, Remuw}
 use Rattle.decode.specs.declared.decoded.Operand.the-variants.{Plain, Vector}
 use Rattle.decode.specs.declared.decoded.ResolvedOperand.{ResolvedOperand}
 use Rattle.decode.specs.declared.decoded.SecondOperand.{SecondOperand}
@@ -32,9 +32,15 @@ abbrev pub untagged : ℕ → Decoded
 untagged word = decoded word 31 [] []
 
 pub record Examples : Type 0 where
-  -- ADD x5, x6, x7, and with funct7 1, which is MUL
+  -- ADD x5, x6, x7, with funct7 1, which is MUL, and with funct7 3
   pub add : untagged 0x0073_02b3 ≡ onto5 Add (Register (plain 7))
-  pub notMul : untagged 0x0273_02b3 ≡ Unknown
+  pub mul : untagged 0x0273_02b3 ≡ onto5 Mul (Register (plain 7))
+  pub notAdd : untagged 0x0673_02b3 ≡ Unknown
+  -- REMUW x5, x6, x7, and with funct3 1, 2 and 3, which no word operation of RV64M has
+  pub remuw : untagged 0x0273_72bb ≡ onto5 Remuw (Register (plain 7))
+  pub notMulhw : untagged 0x0273_12bb ≡ Unknown
+  pub notMulhsuw : untagged 0x0273_22bb ≡ Unknown
+  pub notMulhuw : untagged 0x0273_32bb ≡ Unknown
   -- ADDI x5, x6, -1
   pub addi : untagged 0xfff3_0293 ≡ onto5 Add (Immediate (2 ^ 64 - 1))
   -- SRAI x5, x6, 63, and with bit 26 set

@@ -1,4 +1,5 @@
--- The instructions of 32 bits that are served: a row for each, as the manual's listing of RV64I has them.
+-- The instructions of 32 bits that are served: a row for each, as the manual's listings of RV64I and RV64M
+-- have them.
 use Prim.Native.Nat.{ℕ}
 use mathlib.Core.Bool.{Bool, true, cond, _&&_}
 use mathlib.Core.List.{List, [], _∷_, _++_}
@@ -7,6 +8,8 @@ use Rattle.bits.specs.Bits.{bits}
 use Rattle.scalar.specs.declared.width.Width.the-variants.{Byte, Half, Word, Double}
 use Rattle.scalar.specs.declared.operator.Operator.the-variants.{Add, Sub, Sll, Slt, Sltu, Xor, Srl, Sra, Or, And}
 use Rattle.scalar.specs.declared.operator.Operator.the-variants.{Addw, Subw, Sllw, Srlw, Sraw}
+use Rattle.scalar.specs.declared.operator.Operator.the-variants.{Mul, Mulh, Mulhsu, Mulhu, Div, Divu, Rem, Remu}
+use Rattle.scalar.specs.declared.operator.Operator.the-variants.{Mulw, Divw, Divuw, Remw, Remuw}
 use Rattle.encoding.specs.declared.form.Form.{Form}
 use Rattle.encoding.specs.declared.form.Form.the-variants.{Register, Immediate, Shift, WordShift}
 use Rattle.encoding.specs.declared.form.Form.the-variants.{Load, LoadUnsigned, Store, Unknown}
@@ -88,6 +91,19 @@ funct7Rows =
     ∷ row (funct7 0b0000000) 0b001 0b0111011 (Register Sllw)
     ∷ row (funct7 0b0000000) 0b101 0b0111011 (Register Srlw)
     ∷ row (funct7 0b0100000) 0b101 0b0111011 (Register Sraw)
+    ∷ row (funct7 0b0000001) 0b000 0b0110011 (Register Mul)
+    ∷ row (funct7 0b0000001) 0b001 0b0110011 (Register Mulh)
+    ∷ row (funct7 0b0000001) 0b010 0b0110011 (Register Mulhsu)
+    ∷ row (funct7 0b0000001) 0b011 0b0110011 (Register Mulhu)
+    ∷ row (funct7 0b0000001) 0b100 0b0110011 (Register Div)
+    ∷ row (funct7 0b0000001) 0b101 0b0110011 (Register Divu)
+    ∷ row (funct7 0b0000001) 0b110 0b0110011 (Register Rem)
+    ∷ row (funct7 0b0000001) 0b111 0b0110011 (Register Remu)
+    ∷ row (funct7 0b0000001) 0b000 0b0111011 (Register Mulw)
+    ∷ row (funct7 0b0000001) 0b100 0b0111011 (Register Divw)
+    ∷ row (funct7 0b0000001) 0b101 0b0111011 (Register Divuw)
+    ∷ row (funct7 0b0000001) 0b110 0b0111011 (Register Remw)
+    ∷ row (funct7 0b0000001) 0b111 0b0111011 (Register Remuw)
     ∷ []
 
 abbrev pub hasTop : Top → ℕ → Bool

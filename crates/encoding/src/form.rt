@@ -6,14 +6,15 @@ ghost use Rattle.encoding.specs.Listing.{formOf, lookUp, funct6Rows, fun
 use scalar::operator::Operator;
 use scalar::width::Width;
 
-// The forms that differ in their operands. The four of operations differ in the second one.
+// The forms that differ in their operands: those with one source register first, since LLVM makes fewer tests of
+// neighbours. The four of operations differ in the second operand.
 pub enum Form {
-    Register(Operator),
+    Load(Width),
+    LoadUnsigned(Width),
     Immediate(Operator),
     Shift(Operator),
     WordShift(Operator),
-    Load(Width),
-    LoadUnsigned(Width),
+    Register(Operator),
     Store(Width),
     Unknown,
 }
@@ -88,6 +89,19 @@ fn funct7_form(word: u32) -> Form
         0b0000000_001_0111011 => Form::Register(Operator::Sllw),
         0b0000000_101_0111011 => Form::Register(Operator::Srlw),
         0b0100000_101_0111011 => Form::Register(Operator::Sraw),
+        0b0000001_000_0110011 => Form::Register(Operator::Mul),
+        0b0000001_001_0110011 => Form::Register(Operator::Mulh),
+        0b0000001_010_0110011 => Form::Register(Operator::Mulhsu),
+        0b0000001_011_0110011 => Form::Register(Operator::Mulhu),
+        0b0000001_100_0110011 => Form::Register(Operator::Div),
+        0b0000001_101_0110011 => Form::Register(Operator::Divu),
+        0b0000001_110_0110011 => Form::Register(Operator::Rem),
+        0b0000001_111_0110011 => Form::Register(Operator::Remu),
+        0b0000001_000_0111011 => Form::Register(Operator::Mulw),
+        0b0000001_100_0111011 => Form::Register(Operator::Divw),
+        0b0000001_101_0111011 => Form::Register(Operator::Divuw),
+        0b0000001_110_0111011 => Form::Register(Operator::Remw),
+        0b0000001_111_0111011 => Form::Register(Operator::Remuw),
         _ => Form::Unknown,
     }
 }

@@ -2,13 +2,21 @@
 -- for, `ofZ w` the bits of a number.
 use mathlib.Core.Bool.{Bool}
 use Prim.Native.Nat.{ℕ, _%_, _^_}
+use lib.IntN.{ℤ, pos}
 use lib.Signed.{ltZ, shrZ}
 use mir.Syntax as machine
 use mir.Syntax.{w8, w16, w32, w64}
 use mir.Val.{toZ, ofZ}
 use Rattle.scalar.specs.Width.{bitsOf}
+use Rattle.scalar.specs.declared.signedness.Signedness.{Signedness}
+use Rattle.scalar.specs.declared.signedness.Signedness.the-variants.{Signed, Unsigned}
 use Rattle.scalar.specs.declared.width.Width.{Width}
 use Rattle.scalar.specs.declared.width.Width.the-variants.{Byte, Half, Word, Double}
+
+-- the number that w bits stand for
+abbrev pub interpreted : Signedness → machine.Width → ℕ → ℤ
+interpreted Signed w a = toZ w a
+interpreted Unsigned w a = pos a
 
 abbrev pub lowWord : ℕ → ℕ
 lowWord a = a % 2 ^ 32

@@ -1,4 +1,4 @@
-// The register-register operations of RV64I; the immediate forms share them.
+// The register-register operations of RV64I, which the immediate forms share, and those of RV64M.
 pub enum Operator {
     Add,
     Sub,
@@ -15,4 +15,17 @@ pub enum Operator {
     Sllw,
     Srlw,
     Sraw,
+    Mul,
+    Mulh,
+    Mulhsu,
+    Mulhu,
+    Div,
+    Divu,
+    Rem,
+    Remu,
+    Mulw,
+    Divw,
+    Divuw,
+    Remw,
+    Remuw,
 }

@@ -30,7 +30,7 @@ fn to_i32(x: u32) -> i32
     }
 }
 
-fn to_i64(x: u64) -> i64
+pub fn to_i64(x: u64) -> i64
     ensures { λ r. ⌜ r ≡ toZ w64 x ⌝ }
 {
     if x < 0x8000_0000_0000_0000 {
@@ -41,7 +41,7 @@ fn to_i64(x: u64) -> i64
 }
 
 // The two's complement bits of z.
-fn of_i64(z: i64) -> u64
+pub fn of_i64(z: i64) -> u64
     ensures { λ r. ⌜ r ≡ ofZ w64 z ⌝ }
 {
     if z >= 0 { z as u64 } else { !(!z as u64) }

@@ -45,26 +45,25 @@ fn take_piece(kept: &mut [u8], start: Pending, piece: &[u8]) -> Pending
 }
 
 // At the end of the file. A last line may lack its line end.
-fn finish(kept: &[u8], pending: Pending)
+fn finish(kept: &[u8], pending: Pending) -> Tally
     requires { ⌜ pending .length ≤ length (now kept) ⌝ }
 {
     let length = pending.length;
     let tally = pending.tally;
     if length == 0 {
-        tally.print();
-        return;
+        return tally;
     }
-    tally.with_line(&kept[..length]).print();
+    tally.with_line(&kept[..length])
 }
 
 // A proved loop has to end, and nothing says that a file does: so it counts its turns down, from
 // a number that no run uses up.
-pub(crate) fn check_file(fd: i32, path: &[u8]) {
+pub(crate) fn check_file(fd: i32, path: &[u8], before: Tally) -> Tally {
     let mut line = [0u8; 60];
     let kept: &mut [u8] = &mut line;
     let mut pending = Pending {
         length: 0,
-        tally: Tally::new(),
+        tally: before.with_file(),
     };
     let mut turns = u64::MAX;
     while turns > 0 {
@@ -72,14 +71,14 @@ pub(crate) fn check_file(fd: i32, path: &[u8]) {
         let got = libc::read(fd, &mut buffer);
         if got < 0 {
             os::fail(path);
-            return;
+            return pending.tally;
         }
         if got == 0 {
-            finish(kept, pending);
-            return;
+            return finish(kept, pending);
         }
         let n = io::count(got, &buffer);
         pending = take_piece(kept, pending, &buffer[..n]);
         turns -= 1;
     }
+    pending.tally
 }

@@ -5,7 +5,7 @@ use test_vector_lines::line::Line;
 use test_vector_lines::line::TestVector;
 use test_vector_lines::line::line_of;
 
-// How many lines there were, of each kind.
+// How many lines of a file there were, and of all files of each kind.
 pub struct Tally {
     pub lines: u64,
     pub agree: u64,
@@ -43,6 +43,12 @@ impl Tally {
             differ: 0,
             damaged: 0,
         }
+    }
+
+    // At the start of a file.
+    pub(crate) fn with_file(mut self) -> Tally {
+        self.lines = 0;
+        self
     }
 
     pub(crate) fn with_line(mut self, line: &[u8]) -> Tally {

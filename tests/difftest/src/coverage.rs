@@ -1,9 +1,10 @@
 //! What the cases have reached: each call with each answer it can give, and the situations worth a test.
 
 use difftest::calls::{Call, Outcome};
-use difftest::decode::{decode, Instruction};
+use difftest::decode::{decode, Instruction, Operation, Second};
 use difftest::machine::Machine;
 use difftest::premise;
+use difftest::scalar::Function;
 use difftest::tables::{mask, operand, predicate_entry, Operand};
 use std::collections::BTreeMap;
 use std::fmt::Write;
@@ -97,10 +98,16 @@ impl Coverage {
             self.sizes[made.size.min(101)] += 1;
             let instruction = decode(word).expect("a served word");
             self.add(&operand_situations(made, &instruction));
-            self.add(&match instruction {
-                Instruction::Operation(_) => operation_situations(made, &instruction),
-                _ => transfer_situations(made, &instruction),
-            });
+            match instruction {
+                Instruction::Operation(operation) => {
+                    self.add(&operation_situations(made, &instruction));
+                    self.add(&division_situations(made, &operation));
+                }
+                _ => self.add(&transfer_situations(made, &instruction)),
+            }
+        }
+        if let (Some(word), 2) = (word(made.call), answer) {
+            self.add(&unknown_situations(word));
         }
         if answer == 6 {
             self.add(&shape_situations(made.before));
@@ -210,6 +217,61 @@ fn operation_situations(made: &Made, instruction: &Instruction) -> Vec<Seen> {
     vec![
         ("operation that writes a masked element as zero", ran && mask.zeroing && !mask.on(made.before.destination)),
         ("operation with a scalar destination and a mask", ran && masked && !operand(made.before, rd).is_vector()),
+    ]
+}
+
+/// The operands of the elements that an operation on two registers computed, where it left both as they were.
+fn elements(made: &Made, operation: &Operation) -> Vec<(u64, u64)> {
+    let Second::Register(rs2) = operation.second else {
+        return Vec::new();
+    };
+    let [rd, first, second] = [operation.rd, operation.rs1, rs2].map(|key| operand(made.before, key));
+    let mask = mask(made.before, operation.rd);
+    let end = if made.outcome.answer == 1 { made.after.destination } else { made.before.vl };
+    let most = if rd.is_vector() { usize::MAX } else { 1 };
+    let kept = |register: usize| {
+        let value = made.before.read(register);
+        (made.after.read(register) == value).then_some(value)
+    };
+    let on = (made.before.destination..end).filter(|&position| mask.on(position)).take(most);
+    on.filter_map(|position| Some((kept(first.at(position))?, kept(second.at(position))?))).collect()
+}
+
+/// Divisions at which the manual gives the result by a rule of its own.
+fn division_situations(made: &Made, operation: &Operation) -> Vec<Seen> {
+    let elements = elements(made, operation);
+    let by_zero = elements.iter().any(|&(_, b)| if operation.w { b as u32 == 0 } else { b == 0 });
+    let overflows = elements.iter().any(|&(a, b)| {
+        if operation.w {
+            a as i32 == i32::MIN && b as i32 == -1
+        } else {
+            a as i64 == i64::MIN && b as i64 == -1
+        }
+    });
+    let signed = matches!(operation.function, Function::Div | Function::Rem);
+    let is = |function, w| operation.function == function && operation.w == w;
+    vec![
+        ("DIV by zero", is(Function::Div, false) && by_zero),
+        ("DIVU by zero", is(Function::Divu, false) && by_zero),
+        ("REM by zero", is(Function::Rem, false) && by_zero),
+        ("REMU by zero", is(Function::Remu, false) && by_zero),
+        ("DIVW by zero", is(Function::Div, true) && by_zero),
+        ("DIVUW by zero", is(Function::Divu, true) && by_zero),
+        ("REMW by zero", is(Function::Rem, true) && by_zero),
+        ("REMUW by zero", is(Function::Remu, true) && by_zero),
+        ("DIV or REM of the most negative by -1", signed && !operation.w && overflows),
+        ("DIVW or REMW of the most negative by -1", signed && operation.w && overflows),
+    ]
+}
+
+/// Neighbours of RV64M, by opcode, funct3 and funct7.
+fn unknown_situations(word: u32) -> Vec<Seen> {
+    let (opcode, funct3, funct7) = (word & 0x7F, word >> 12 & 7, word >> 25);
+    let near = (funct7 ^ 1).count_ones() == 1;
+    vec![
+        ("unknown: MULH, MULHSU or MULHU as a W form", opcode == 0x3B && funct7 == 1 && (1..=3).contains(&funct3)),
+        ("unknown: RV64M with another bit of funct7", opcode == 0x33 && near),
+        ("unknown: a W form of RV64M with another bit of funct7", opcode == 0x3B && near),
     ]
 }
 

@@ -135,6 +135,14 @@ fn operation(word: u32) -> Option<Instruction> {
         (0x20, 5) => Function::Sra,
         (0x00, 6) => Function::Or,
         (0x00, 7) => Function::And,
+        (0x01, 0) => Function::Mul,
+        (0x01, 1) => Function::Mulh,
+        (0x01, 2) => Function::Mulhsu,
+        (0x01, 3) => Function::Mulhu,
+        (0x01, 4) => Function::Div,
+        (0x01, 5) => Function::Divu,
+        (0x01, 6) => Function::Rem,
+        (0x01, 7) => Function::Remu,
         _ => return None,
     };
     Some(with_register(word, function, false))
@@ -147,6 +155,11 @@ fn operation_w(word: u32) -> Option<Instruction> {
         (0x00, 1) => Function::Sll,
         (0x00, 5) => Function::Srl,
         (0x20, 5) => Function::Sra,
+        (0x01, 0) => Function::Mul,
+        (0x01, 4) => Function::Div,
+        (0x01, 5) => Function::Divu,
+        (0x01, 6) => Function::Rem,
+        (0x01, 7) => Function::Remu,
         _ => return None,
     };
     Some(with_register(word, function, true))

@@ -1,8 +1,9 @@
 //! Random machines for a word and a memory: in shape with tables that the word meets, or spoiled.
 
 use crate::random::Random;
-use crate::words::{accesses_memory, keys, offset};
+use crate::words::{accesses_memory, divides, is_w, keys, offset};
 use difftest::machine::{Machine, ENTRIES, REGISTERS};
+use difftest::tables::operand;
 
 const EDGES: [u64; 10] =
     [0, 1, u64::MAX, 1 << 63, (1 << 63) - 1, 1 << 31, (1 << 31) - 1, 0xFFFF_FFFF, 0xFFFF_FFFF_8000_0000, 1 << 32];
@@ -23,6 +24,9 @@ pub fn in_shape(random: &mut Random, word: u32, size: usize) -> Machine {
     let starts = [random.below(128), random.below(128)];
     register_table(random, &mut machine, word, starts);
     predicate_table(random, &mut machine, word, starts);
+    if divides(word) && random.percent(75) {
+        corner_operands(random, &mut machine, word);
+    }
     masks(random, &mut machine);
     machine
 }
@@ -94,6 +98,25 @@ fn address(random: &mut Random, size: u64, outside: u64) -> u64 {
         2 => 0u64.wrapping_sub(random.below(9)),
         3 => 0u64.wrapping_sub(8 * random.below(16)),
         _ => random.word(),
+    }
+}
+
+/// Puts into the sources of many positions a division by zero, or of the most negative number by -1 or the other way
+/// round; for a W form in the low 32 bits.
+fn corner_operands(random: &mut Random, machine: &mut Machine, word: u32) {
+    let sources = [15, 20].map(|low| operand(machine, word >> low & 31));
+    for position in machine.destination..machine.vl {
+        if random.percent(50) {
+            continue;
+        }
+        let (least, minus_one, any) = (1 << 63, u64::MAX, random.word());
+        let numbers = random.pick(&[[least, minus_one], [least, minus_one], [minus_one, least], [any, 0]]);
+        for (source, number) in sources.into_iter().zip(numbers) {
+            let value = if is_w(word) { random.word() << 32 | number >> 32 } else { number };
+            if source.at(position) < REGISTERS {
+                machine.write(source.at(position), value);
+            }
+        }
     }
 }
 

@@ -10,9 +10,29 @@ const REGISTER: u32 = 0x33;
 const REGISTER_W: u32 = 0x3B;
 
 /// funct3 and funct7 of the register forms.
-const FUNCTIONS: [(u32, u32); 10] =
-    [(0, 0), (0, 0x20), (1, 0), (2, 0), (3, 0), (4, 0), (5, 0), (5, 0x20), (6, 0), (7, 0)];
-const FUNCTIONS_W: [(u32, u32); 5] = [(0, 0), (0, 0x20), (1, 0), (5, 0), (5, 0x20)];
+const FUNCTIONS: [(u32, u32); 18] = [
+    (0, 0),
+    (0, 0x20),
+    (1, 0),
+    (2, 0),
+    (3, 0),
+    (4, 0),
+    (5, 0),
+    (5, 0x20),
+    (6, 0),
+    (7, 0),
+    (0, RV64M),
+    (1, RV64M),
+    (2, RV64M),
+    (3, RV64M),
+    (4, RV64M),
+    (5, RV64M),
+    (6, RV64M),
+    (7, RV64M),
+];
+const FUNCTIONS_W: [(u32, u32); 10] =
+    [(0, 0), (0, 0x20), (1, 0), (5, 0), (5, 0x20), (0, RV64M), (4, RV64M), (5, RV64M), (6, RV64M), (7, RV64M)];
+const RV64M: u32 = 1;
 
 /// A word of any sort.
 pub fn any(random: &mut Random) -> u32 {
@@ -27,11 +47,11 @@ pub fn any(random: &mut Random) -> u32 {
 /// A word that is served.
 pub fn served(random: &mut Random) -> u32 {
     let names = names(random);
-    match random.below(10) {
-        0..=1 => register_form(random, names),
-        2..=3 => immediate_form(random, names),
-        4..=5 => moved(random, names),
-        6..=7 => load(random, names),
+    match random.below(12) {
+        0..=3 => register_form(random, names),
+        4..=5 => immediate_form(random, names),
+        6..=7 => moved(random, names),
+        8..=9 => load(random, names),
         _ => store(random, names),
     }
 }
@@ -98,15 +118,26 @@ fn store(random: &mut Random, [_, rs1, rs2]: [u32; 3]) -> u32 {
     fields(STORE, random.below(4) as u32, [immediate & 31, rs1, 0], upper)
 }
 
-/// A served word with one or two bits turned, or with other function or opcode bits.
+/// A served word with one or two bits turned, or with other function or opcode bits, or a neighbour of RV64M.
 fn corrupted(random: &mut Random) -> u32 {
     let word = served(random);
-    match random.below(4) {
+    match random.below(6) {
         0 => word ^ 1 << random.below(32),
         1 => word ^ 1 << random.below(32) ^ 1 << random.below(32),
         2 => word ^ (random.word() as u32 & 0xFE007000),
-        _ => word ^ (random.word() as u32 & 0x7C),
+        3 => word ^ (random.word() as u32 & 0x7C),
+        _ => near_rv64m(random),
     }
+}
+
+/// A W form that RV64M doesn't have, or a word of RV64M with one more bit of funct7.
+fn near_rv64m(random: &mut Random) -> u32 {
+    let names = names(random);
+    if random.percent(30) {
+        return fields(REGISTER_W, random.between(1, 3) as u32, names, RV64M << 5 | names[2]);
+    }
+    let funct7 = RV64M | 2 << random.below(6);
+    fields(random.pick(&[REGISTER, REGISTER_W]), random.below(8) as u32, names, funct7 << 5 | names[2])
 }
 
 /// A 16-bit word: any, or C.MV with one field changed.
@@ -134,4 +165,14 @@ pub fn offset(word: u32) -> u64 {
 
 pub fn accesses_memory(word: u32) -> bool {
     matches!(word & 0x7F, LOAD | STORE)
+}
+
+/// Whether the word is a W form on two registers.
+pub fn is_w(word: u32) -> bool {
+    word & 0x7F == REGISTER_W
+}
+
+/// Whether the word is a division of RV64M.
+pub fn divides(word: u32) -> bool {
+    matches!(word & 0x7F, REGISTER | REGISTER_W) && word >> 25 == RV64M && word >> 14 & 1 == 1
 }

@@ -3,7 +3,7 @@
 use difftest::calls::{call, Call};
 use difftest::machine::Machine;
 
-const FILE: &str = concat!(env!("CARGO_MANIFEST_DIR"), "/../../crates/test_vectors/data/rv64i.txt");
+const FOLDER: &str = concat!(env!("CARGO_MANIFEST_DIR"), "/../../crates/test_vectors/data");
 
 fn agrees(line: &str) -> bool {
     let numbers: Vec<u64> = line.split(' ').map(|text| u64::from_str_radix(text, 16).expect("a number")).collect();
@@ -17,10 +17,19 @@ fn agrees(line: &str) -> bool {
     outcome.answer == 0 && machine.registers[5] == result
 }
 
-#[test]
-fn every_result() {
-    let text = std::fs::read_to_string(FILE).expect("the vectors of the repository");
+fn every_result(name: &str, count: usize) {
+    let text = std::fs::read_to_string(format!("{FOLDER}/{name}")).expect("the vectors of the repository");
     let wrong: Vec<&str> = text.lines().filter(|line| !agrees(line)).collect();
     assert!(wrong.is_empty(), "{} differ, the first: {}", wrong.len(), wrong[0]);
-    assert_eq!(text.lines().count(), 9254);
+    assert_eq!(text.lines().count(), count);
+}
+
+#[test]
+fn rv64i() {
+    every_result("rv64i.txt", 9254);
+}
+
+#[test]
+fn rv64m() {
+    every_result("rv64m.txt", 6149);
 }

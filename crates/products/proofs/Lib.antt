@@ -1,0 +1,4 @@
+pub mod Digits
+pub mod Halves
+pub mod Integers
+pub mod Ranges

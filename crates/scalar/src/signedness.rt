@@ -1,0 +1,5 @@
+// How the bits of a register are interpreted.
+pub enum Signedness {
+    Signed,
+    Unsigned,
+}
