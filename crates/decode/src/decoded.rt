@@ -50,7 +50,8 @@ pub struct StoreWord {
     pub width: Width,
 }
 
-// The kinds that a word is read into. Their order costs the fewest instructions in the loops of x86-64.
+// The kinds that a word is read into. Of four orders that were counted, this one gives the loops of x86-64 the fewest
+// instructions.
 pub enum Decoded {
     Unknown,
     Store(StoreWord),

@@ -6,8 +6,8 @@ ghost use Rattle.encoding.specs.Listing.{formOf, lookUp, funct6Rows, fun
 use scalar::operator::Operator;
 use scalar::width::Width;
 
-// The forms that differ in their operands: those with one source register first, since LLVM makes fewer tests of
-// neighbours. The four of operations differ in the second operand.
+// The forms that differ in their operands. The four of operations differ in the second one. Those with one source
+// register stand first: a call then has 40 instructions less on RV64 than with `Register` first.
 pub enum Form {
     Load(Width),
     LoadUnsigned(Width),

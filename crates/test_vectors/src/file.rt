@@ -71,7 +71,7 @@ pub(crate) fn check_file(fd: i32, path: &[u8], before: Tally) -> Tally {
         let got = libc::read(fd, &mut buffer);
         if got < 0 {
             os::fail(path);
-            return pending.tally;
+            return pending.tally.with_damage();
         }
         if got == 0 {
             return finish(kept, pending);

@@ -19,12 +19,12 @@ fn check_argument(index: usize, tally: Tally) -> Tally {
     let length = os::arg(index, &mut path);
     if os::errno() != 0 {
         os::fail(b"path");
-        return tally;
+        return tally.with_damage();
     }
     let fd = os::open_read(&path[..length]);
     if fd < 0 {
         os::fail(&path[..length]);
-        return tally;
+        return tally.with_damage();
     }
     io::write_all(1, &path[..length]);
     io::write_all(1, b"\n");

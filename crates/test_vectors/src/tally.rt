@@ -51,6 +51,12 @@ impl Tally {
         self
     }
 
+    // A damaged line, or a file that can't be read to its end.
+    pub(crate) fn with_damage(mut self) -> Tally {
+        self.damaged = one_more(self.damaged);
+        self
+    }
+
     pub(crate) fn with_line(mut self, line: &[u8]) -> Tally {
         self.lines = one_more(self.lines);
         match line_of(line) {
@@ -64,8 +70,7 @@ impl Tally {
             }
             Line::Damaged => {
                 report::damaged(self.lines);
-                self.damaged = one_more(self.damaged);
-                self
+                self.with_damage()
             }
         }
     }
