@@ -6,8 +6,9 @@
 #include <string.h>
 
 #define MEMORY_SIZE 1024
+#define FIRST_ADDRESS 16 /* of a load or store: aligned for all */
 
-/* Key 5 is the vector at 64, key 6 the vector at 0; x7 stays a scalar, the address of loads and stores. */
+/* Key 5 is the vector at 64, key 6 the vector at 0; x7 stays a scalar, and loads and stores are 8(x7). */
 static const struct bench {
     const char *name, *title;
     uint32_t word;
@@ -36,7 +37,7 @@ static inline void start_lent(struct simplev_machine *m, const struct bench *b, 
     m->register_table[1] = 0x8086;
     m->predicate_table[0] = b->predicate;
     m->registers[3] = 0x5555555555555555;
-    m->registers[7] = 10;
+    m->registers[7] = FIRST_ADDRESS - 8;
 }
 
 /* The same state as the other handlers have it. */

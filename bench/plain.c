@@ -133,6 +133,14 @@ static int ended(struct machine *m, unsigned bytes)
     return 0;
 }
 
+/* Stands at a pair of positions, which comes next or has failed. */
+static int stopped(struct machine *m, unsigned source, unsigned destination, int answer)
+{
+    m->source = source;
+    m->destination = destination;
+    return answer;
+}
+
 static int operation(struct machine *m, uint32_t word, uint16_t allowance)
 {
     int immediate = !(word >> 5 & 1);
@@ -166,8 +174,7 @@ static int operation(struct machine *m, uint32_t word, uint16_t allowance)
         if (i == vl)
             return ended(m, 4);
     } while (--allowance);
-    m->source = m->destination = i;
-    return 1;
+    return stopped(m, i, i, 1);
 }
 
 static uint64_t fetch(unsigned f, const uint8_t *from)
@@ -186,7 +193,8 @@ static uint64_t fetch(unsigned f, const uint8_t *from)
 
 static int load(struct machine *m, uint32_t word, uint16_t allowance, const uint8_t *memory, size_t size)
 {
-    unsigned f = word >> 12 & 7, bytes = 1u << (f & 3);
+    unsigned f = word >> 12 & 7;
+    size_t bytes = (size_t)1 << (f & 3);
     struct operand d = name(m, word >> 7 & 31), a = name(m, word >> 15 & 31);
     struct mask kd = mask_of(m, word >> 7 & 31), ka = mask_of(m, word >> 15 & 31);
     uint64_t offset = (uint64_t)(int64_t)((int32_t)word >> 20);
@@ -204,11 +212,10 @@ static int load(struct machine *m, uint32_t word, uint16_t allowance, const uint
         if (i == vl || (d.vector && j == vl))
             return ended(m, 4);
         uint64_t address = x[at(a, i)] + offset + i * stride;
-        if (size < bytes || address > size - bytes) {
-            m->source = i;
-            m->destination = j;
-            return 5;
-        }
+        if (address & (bytes - 1))
+            return stopped(m, i, j, 9);
+        if (size < bytes || address > size - bytes)
+            return stopped(m, i, j, 5);
         uint64_t v = fetch(f, memory + address);
         if (at(d, j))
             x[at(d, j)] = v;
@@ -216,9 +223,7 @@ static int load(struct machine *m, uint32_t word, uint16_t allowance, const uint
         if (!d.vector || i == vl || ++j == vl)
             return ended(m, 4);
     } while (--allowance);
-    m->source = i;
-    m->destination = j;
-    return 1;
+    return stopped(m, i, j, 1);
 }
 
 static void put(unsigned f, uint8_t *to, uint64_t v)
@@ -233,7 +238,8 @@ static void put(unsigned f, uint8_t *to, uint64_t v)
 
 static int store(struct machine *m, uint32_t word, uint16_t allowance, uint8_t *memory, size_t size)
 {
-    unsigned f = word >> 12 & 7, bytes = 1u << (f & 3);
+    unsigned f = word >> 12 & 7;
+    size_t bytes = (size_t)1 << (f & 3);
     struct operand d = name(m, word >> 20 & 31), a = name(m, word >> 15 & 31);
     struct mask kd = mask_of(m, word >> 20 & 31), ka = mask_of(m, word >> 15 & 31);
     uint64_t offset = (uint64_t)(int64_t)((int32_t)word >> 25) << 5 | (word >> 7 & 31);
@@ -251,19 +257,16 @@ static int store(struct machine *m, uint32_t word, uint16_t allowance, uint8_t *
         if (j == vl || (d.vector && i == vl))
             return ended(m, 4);
         uint64_t address = x[at(a, j)] + offset + j * stride;
-        if (size < bytes || address > size - bytes) {
-            m->source = i;
-            m->destination = j;
-            return 5;
-        }
+        if (address & (bytes - 1))
+            return stopped(m, i, j, 9);
+        if (size < bytes || address > size - bytes)
+            return stopped(m, i, j, 5);
         put(f, memory + address, x[at(d, i)]);
         j++;
         if (j == vl || (d.vector && ++i == vl) || (!d.vector && !a.vector))
             return ended(m, 4);
     } while (--allowance);
-    m->source = i;
-    m->destination = j;
-    return 1;
+    return stopped(m, i, j, 1);
 }
 
 static int move(struct machine *m, uint32_t word, uint16_t allowance)
@@ -289,9 +292,7 @@ static int move(struct machine *m, uint32_t word, uint16_t allowance)
         if (!d.vector || (a.vector && ++i == vl) || ++j == vl)
             return ended(m, 2);
     } while (--allowance);
-    m->source = i;
-    m->destination = j;
-    return 1;
+    return stopped(m, i, j, 1);
 }
 
 int plain_run(struct machine *m, uint32_t word, uint16_t allowance, uint8_t *memory, size_t size)

@@ -13,6 +13,6 @@ struct machine {
     uint16_t predicate_table[16];
 };
 
-/* 0 done, 1 paused, 2 unknown word, 3 past the registers, 5 fault */
+/* 0 done, 1 paused, 2 unknown word, 3 past the registers, 5 not wholly in memory, 9 misaligned */
 int plain_run(struct machine *m, uint32_t word, uint16_t allowance, uint8_t *memory, size_t size);
 #endif

@@ -2,9 +2,10 @@
  * register with an address holds its distance from BASE for the time of a call, and the address itself at all other
  * times. run_elsewhere is to a run on such RAM what simplev_machine_run is to one on memory from 0.
  *
- * It asks two things. RAM is not in the lowest or highest 4096 addresses, so that an access by register 0, which can't
- * hold a distance, is a fault. And no mask register set for an operand is one with an address or one that the word may
- * write, since an address may change, and masks may be read, between two elements.
+ * It asks three things. BASE is divisible by 8, so that an address is misaligned exactly where its distance is. RAM is
+ * not in the lowest or highest 4096 addresses, so that an access by register 0, which can't hold a distance, is a
+ * memory fault. And no mask register set for an operand is one with an address or one that the word may write, since an
+ * address may change, and masks may be read, between two elements.
  *
  * Prints what happens, in hexadecimal, checks it, and ends with status 1 where something is not as it should be. Build
  * it as examples/slices.c. */
@@ -15,6 +16,7 @@
 #ifndef BASE
 #define BASE UINT64_C(0x80000000)
 #endif
+_Static_assert(BASE % 8 == 0, "an address and its distance from BASE are divisible alike");
 static uint8_t ram[256]; /* what lies at BASE; on the core itself a pointer to BASE */
 
 /* --- run_elsewhere --- */
@@ -67,13 +69,14 @@ static uint32_t run_whole(struct simplev_machine *m, const struct access *a, uin
     answer = simplev_machine_run(m, word, allowance, ram, sizeof ram, address);
     for (unsigned k = 0; k < a->address.count; k++)
         m->registers[a->address.first + k] += BASE;
-    if (answer == SIMPLEV_FAULT)
+    if (answer == SIMPLEV_FAULT || answer == SIMPLEV_MISALIGNED)
         *address += BASE;
     return answer;
 }
 
-/* One element. Without memory a step comes to stand at the next element, gives its address as that of a fault, and does
- * nothing else; where there is none it ends the instruction. Then the registers of this element are known. */
+/* One element. Without memory a step comes to stand at the next element, gives its address as that of a memory fault,
+ * and does nothing else; where there is none it ends the instruction. Then the registers of this element are known. An
+ * answer of MISALIGNED is that of the access, wherever its address is. */
 static uint32_t step_elsewhere(struct simplev_machine *m, const struct access *a, uint32_t word, uint64_t *address)
 {
     uint32_t answer = simplev_machine_step(m, word, NULL, 0, address);
@@ -81,7 +84,7 @@ static uint32_t step_elsewhere(struct simplev_machine *m, const struct access *a
     const uint64_t at = *address - BASE;
     const unsigned holder = a->address.first + (a->address.count > 1 ? (unsigned)(a->store ? destination : source) : 0);
     const unsigned value = a->value.first + (a->value.count > 1 ? (unsigned)(a->store ? source : destination) : 0);
-    if (answer != SIMPLEV_FAULT || at > sizeof ram - a->bytes) /* not in RAM, as every access by register 0 */
+    if (answer != SIMPLEV_FAULT || at > sizeof ram - a->bytes) /* misaligned, or not in RAM, as all by register 0 */
         return answer;
     m->registers[holder] -= BASE;
     answer = simplev_machine_step(m, word, ram, sizeof ram, address);
@@ -115,6 +118,7 @@ static uint32_t run_elsewhere(struct simplev_machine *m, uint32_t word, uint16_t
 #define LD_X5_8_X6 0x00833283u
 #define SD_X6_0_X6 0x00633023u
 #define LD_X5_16_X0 0x01003283u
+#define LD_X5_12_X0 0x00c03283u
 
 static struct simplev_machine m;
 static int wrong;
@@ -155,7 +159,8 @@ static void run(const char *name, uint32_t word, uint16_t allowance, uint32_t an
     expect(given == answer && address == at, name);
 }
 
-/* x6 is one address, and the load pauses. Then the RAM's last eight bytes, and a fault behind them and before BASE. */
+/* x6 is one address, and the load pauses. Then the RAM's last eight bytes, and a fault behind them and before BASE, and
+ * an address that is misaligned. */
 static void scalar_address(void)
 {
     set_up(0);
@@ -169,6 +174,9 @@ static void scalar_address(void)
     set_up(0);
     m.registers[6] = BASE - 16;
     run("before BASE", LD_X5_8_X6, 64, SIMPLEV_FAULT, BASE - 8);
+    m.registers[6] = BASE + 12;
+    run("misaligned", LD_X5_8_X6, 64, SIMPLEV_MISALIGNED, BASE + 20);
+    expect(m.registers[6] == BASE + 12 && m.control[SIMPLEV_SOURCE] == 0, "x6 is the address, and nothing is loaded");
 }
 
 /* x6 is the vector at x60: an address for each element. */
@@ -182,6 +190,24 @@ static void vector_address(void)
     expect(m.registers[60] == BASE + 64 && m.registers[63] == BASE + 16, "the addresses are what they were");
 }
 
+/* The same with a third address that is misaligned, in RAM and then behind it; the load goes on when it is aligned. */
+static void vector_address_misaligned(void)
+{
+    set_up(0xbc86);
+    for (int k = 0; k < 4; k++)
+        m.registers[60 + k] = BASE + 16 * (uint64_t)k;
+    m.registers[62] += 1;
+    run("the third misaligned", LD_X5_8_X6, 64, SIMPLEV_MISALIGNED, BASE + 41);
+    expect(m.registers[41] == 0x103 && m.registers[42] == 0, "those before it are loaded, and no other");
+    expect(m.control[SIMPLEV_SOURCE] == 2 && m.control[SIMPLEV_DESTINATION] == 2, "the offsets stand at it");
+    expect(m.registers[60] == BASE && m.registers[62] == BASE + 33, "the addresses are what they were");
+    m.registers[62] += sizeof ram;
+    run("misaligned, and not in RAM", LD_X5_8_X6, 64, SIMPLEV_MISALIGNED, BASE + sizeof ram + 41);
+    m.registers[62] = BASE + 32;
+    run("the rest, aligned", LD_X5_8_X6, 64, SIMPLEV_DONE, 0);
+    expect(m.registers[42] == 0x105 && m.registers[43] == 0x107, "it goes on at the third");
+}
+
 /* x6 is x42, the third register of x5: the third element loads the address of the fourth. */
 static void own_address(void)
 {
@@ -193,7 +219,20 @@ static void own_address(void)
     expect(m.registers[43] == 0x114, "the fourth is from there, 8 + 3 * 8 bytes on");
 }
 
-/* x6 is the vector at x40, and is stored where it points to; then an access by register 0. */
+/* The same, misaligned at the first element; then the third element loads an address that is. */
+static void own_address_misaligned(void)
+{
+    set_up(0x2a86);
+    m.registers[42] = BASE + 4;
+    run("its own address misaligned", LD_X5_8_X6, 64, SIMPLEV_MISALIGNED, BASE + 12);
+    expect(m.registers[42] == BASE + 4 && m.control[SIMPLEV_SOURCE] == 0, "x42 is the address, and nothing is loaded");
+    m.registers[42] = BASE;
+    put(24, BASE + 130);
+    run("a misaligned address loaded", LD_X5_8_X6, 64, SIMPLEV_MISALIGNED, BASE + 162);
+    expect(m.registers[42] == BASE + 130 && m.control[SIMPLEV_SOURCE] == 3, "the fourth is at the address loaded");
+}
+
+/* x6 is the vector at x40, and is stored where it points to; then the second is misaligned. */
 static void stored_address(void)
 {
     uint64_t stored = 0;
@@ -204,14 +243,27 @@ static void stored_address(void)
     for (int k = 0; k < 8; k++)
         stored |= (uint64_t)ram[96 + k] << 8 * k;
     expect(stored == BASE + 96, "the address is stored, and not the distance");
+    m.registers[41] += 6;
+    run("the second misaligned", SD_X6_0_X6, 64, SIMPLEV_MISALIGNED, BASE + 38);
+    expect(m.registers[41] == BASE + 38 && ram[38] == 0, "x41 is the address, and is not stored");
+}
+
+/* At its own address, which is not one of RAM. */
+static void by_register_0(void)
+{
+    set_up(0);
     run("by register 0", LD_X5_16_X0, 64, SIMPLEV_FAULT, 16);
+    run("by register 0, misaligned", LD_X5_12_X0, 64, SIMPLEV_MISALIGNED, 12);
 }
 
 int main(void)
 {
     scalar_address();
     vector_address();
+    vector_address_misaligned();
     own_address();
+    own_address_misaligned();
     stored_address();
+    by_register_0();
     return wrong;
 }

@@ -14,7 +14,8 @@
  *    be checked before it.
  *  - Its out-parameter (`value` or `address`) is always written: with what the call's comment says, and with 0 where
  *    the answer is a refusal.
- *  - A refusal (2, 3, 4, 6, 7, 8) changes nothing in the machine or the memory.
+ *  - A refusal (2, 3, 4, 6, 7, 8) changes nothing in the machine or the memory. A memory fault (5, 9) keeps the
+ *    elements before it; the comment of a run says how the machine then stands.
  *  - Every word of the machine and every byte of the memory after it is what the definition of the call gives. Of the
  *    arrays it writes only those that are not const in its declaration.
  *
@@ -36,26 +37,29 @@
  *
  * What a call takes, measured on RV64 (rv64imac, -O3), not proved:
  *
- *  - Stack: at most 176 bytes, without those of memset. tools/rv64 prints it for other flags.
+ *  - Stack: at most 160 bytes, without those of memset. tools/rv64 prints it for other flags.
  *  - Time, counted over states chosen to be bad. docs/BENCHMARKS.md says how, and how to choose an allowance for an
  *    interrupt latency.
- *   allowance 0, 1, 4, 16, VL: at most 682, 1405, 1532, 2226, 5047 instructions
+ *   allowance 0, 1, 4, 16, VL: at most 681, 1432, 1600, 2290, 5078 instructions
  *
  * Memory that begins elsewhere. Addresses begin at 0: an access at address a is to memory[a]. RAM that begins at BASE,
  * 0x80000000, say, or a part of it, is lent by a pointer to its first byte and its length, and during a call the
- * registers with addresses hold distances from it:
+ * registers with addresses hold distances from it. BASE is to be divisible by 8: then an address and its distance are
+ * divisible by 2, 4 and 8 alike, and the same accesses are misaligned.
  *
  *  - Before the call of a load or store subtract BASE, modulo 2^64, from the real register of rs1, or from all VL of
  *    them where it is a vector. After the call, also one that paused or faulted, add BASE to the same registers, and to
- *    `*address` if the answer is FAULT. A call with allowance 0 before it says whether the word is refused.
+ *    `*address` if the answer is FAULT or MISALIGNED. A call with allowance 0 before it says whether the word is
+ *    refused.
  *  - That is right where none of these registers is register 0, one that the word may load or stores, or a mask
  *    register set for an operand. Where a load may write its own address register, or a store stores it, go element by
- *    element: a step without memory does nothing but come to the next element and give its address, as that of a fault;
- *    if it is one of RAM, subtract BASE from this element's register alone, step with memory, and add BASE to it again
- *    unless it was loaded; if it was stored, store it once more. An access by register 0, which can't hold a distance,
- *    is a fault where no RAM lies within its reach. For an address register that is a mask register there is no way.
+ *    element: a step without memory does nothing but come to the next element and give its address, as that of a memory
+ *    fault. If that is MISALIGNED, it is the answer. If it is FAULT and the address is one of RAM, subtract BASE from
+ *    this element's register alone, step with memory, and add BASE to it again unless it was loaded; if it was stored,
+ *    store it once more. An access by register 0, which can't hold a distance, is a memory fault where no RAM lies
+ *    within its reach. For an address register that is a mask register there is no way.
  *  - A pointer to address 0 with a size up to the end of RAM is not the way: NULL is no memory, and all that lies below
- *    RAM would be lent, so that an access there is no fault.
+ *    RAM would be lent, so that an access there is not FAULT.
  *
  * examples/elsewhere.c has a function that does all of this.
  */
@@ -67,9 +71,9 @@
 
 /* The version of this header; simplev_version says that of the archive. The major number changes when something that
  * was there changes, the minor one when something is added. */
-#define SIMPLEV_VERSION "1.1.0"
-#define SIMPLEV_VERSION_MAJOR 1
-#define SIMPLEV_VERSION_MINOR 1
+#define SIMPLEV_VERSION "2.0.0"
+#define SIMPLEV_VERSION_MAJOR 2
+#define SIMPLEV_VERSION_MINOR 0
 #define SIMPLEV_VERSION_PATCH 0
 #define SIMPLEV_VERSION_NUMBER (SIMPLEV_VERSION_MAJOR * 65536 + SIMPLEV_VERSION_MINOR * 256 + SIMPLEV_VERSION_PATCH)
 
@@ -87,8 +91,8 @@
 #define SIMPLEV_DESTINATION 5 /* destination offset, below VL */
 #define SIMPLEV_CONTROL 6     /* how many there are */
 
-/* What a call says. A run looks for refusals in the order 6, 2, 4, 3, then at its allowance, then at each access (5). A
- * setting call looks in the order 6, 8, 7, a reading call in the order 6, 8. */
+/* What a call says. A run looks in the order 6, 2, 4, 3, then at its allowance, then at each element 9, then 5. A
+ * setting call looks in the order 6, 8, 7, a reading call in the order 6, 8. 5 and 9 are the memory faults. */
 enum simplev_answer {
     SIMPLEV_DONE = 0,           /* done */
     SIMPLEV_PAUSED = 1,         /* the allowance was used up: call again with the same word */
@@ -98,7 +102,8 @@ enum simplev_answer {
     SIMPLEV_FAULT = 5,          /* an access does not lie wholly in memory */
     SIMPLEV_OUT_OF_SHAPE = 6,   /* a range above broken, register 0 not 0, or bit 0 set in a predicate entry */
     SIMPLEV_BAD_VALUE = 7,      /* a value that cannot be set */
-    SIMPLEV_NO_SUCH = 8         /* no such entry or register */
+    SIMPLEV_NO_SUCH = 8,        /* no such entry or register */
+    SIMPLEV_MISALIGNED = 9      /* an access of 2, 4 or 8 bytes is at an address that is not divisible by that number */
 };
 
 /* A machine. Its arrays stand in this order with no space between; each call takes them one by one, so a caller that
@@ -202,7 +207,9 @@ static inline void simplev_machine_fresh(struct simplev_machine *m)
 
 /* Runs an instruction word for at most `allowance` units, on a memory of `size` bytes at addresses from 0, or none
  * where `memory` is NULL. A unit of an operation is one position, also one that its mask leaves out. A unit of a move,
- * a load or a store skips to the next pair of positions that are on, and moves one element.
+ * a load or a store skips to the next pair of positions that are on, and moves one element. An access of 2, 4 or 8
+ * bytes has to be at an address, modulo 2^64, that is divisible by that number; one byte may be at any. The pointer
+ * `memory` itself need not be aligned.
  *
  *  DONE    all elements done: the program counter has gone up by 4 (2 for C.MV), and both offsets are 0.
  *  PAUSED  the elements so far are done, the program counter is where it was, and the offsets stand at the next
@@ -213,10 +220,12 @@ static inline void simplev_machine_fresh(struct simplev_machine *m)
  *          instruction may write (the destination's register and, for a vector, the VL - 1 above it; a store has none),
  *          and memory is not touched in between. An allowance of VL or more never pauses. With allowance 0 a good word
  *          pauses, and nothing changes.
- *  FAULT   the elements before it are done, and the offsets stand at the one that failed; `*address` is the address of
- *          its access. The program counter is where it was, so the same call again tries that element again.
+ *  FAULT, MISALIGNED
+ *          the elements before it are done, and the offsets stand at the one that failed; `*address` is the address of
+ *          its access. The program counter is where it was, so the same call again tries that element again. An access
+ *          that is misaligned and not wholly in memory is MISALIGNED.
  *
- * `*address` is 0 with every answer but FAULT. The tables, MVL, VL and CFG are never changed. */
+ * `*address` is 0 with every answer but these two. The tables, MVL, VL and CFG are never changed. */
 static inline uint32_t simplev_machine_run(struct simplev_machine *m, uint32_t word, uint16_t allowance,
                                            uint8_t *memory, size_t size, uint64_t *address)
 {

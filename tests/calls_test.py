@@ -154,7 +154,7 @@ def check_scripts():
             stop(f"{out.name} is not what the model gives for {path.name}")
         check(path.name, tool(path), 0, out.read_text(), "")
         answers |= {line.split()[0] for line in lines}
-    if len(scripts) < 10 or not set("012345678") <= answers:
+    if len(scripts) < 10 or not set("0123456789") <= answers:
         stop(f"tests/calls has {len(scripts)} scripts, and answers {sorted(answers)}")
     extra = {path.stem for path in SCRIPTS.glob("*.out")} - {path.stem for path in scripts}
     if extra:
@@ -254,7 +254,7 @@ def check_arguments(directory):
     status, printed, said = tool("--help")
     words = ["fresh MEMLEN", *(f"set {name} " for name in SETTINGS), "get vl|mvl|state|cfg|pc", "get x|reg|pred I",
              "run WORD ALLOWANCE", "step WORD", "poke mvl|vl|src|dst|cfg|x0 N", "poke pred I N", "mem ADDRESS BYTE",
-             "dump", *(f" {answer} " for answer in range(9))]
+             "dump", *(f" {answer} " for answer in range(10))]
     missing = [word for word in words if word not in printed]
     if status or said or missing or tool("-h") != (0, printed, ""):
         stop(f"--help: status {status}, {said!r}, without {missing}")
@@ -314,7 +314,10 @@ def number(draw, n):
 
 def random_value(draw):
     return draw.choice([draw.randrange(4), draw.randrange(70), draw.randrange(300), 2**64 - 1 - draw.randrange(20),
-                        draw.getrandbits(64), 2**32 + draw.randrange(70), 2**63, draw.getrandbits(70)])
+                        draw.getrandbits(64), 2**32 + draw.randrange(70), 2**63, draw.getrandbits(70),
+                        # aligned for every access
+                        8 * draw.randrange(4), 8 * draw.randrange(8), 8 * draw.randrange(32), 8 * draw.randrange(32),
+                        2**64 - 8 * draw.randrange(1, 5)])
 
 
 # opcode: its values of funct3
@@ -335,6 +338,9 @@ def random_word(draw):
         return word ^ draw.randrange(8) << 12 | 1 << 25  # of RV64M, but for some of OP-32
     if opcode in (0x33, 0x3B, 0x1B) and funct3 in (0, 5):
         word |= draw.randrange(2) << 30
+    if opcode in (0x03, 0x23) and draw.random() < 0.8:
+        low = 20 if opcode == 0x03 else 7  # of the immediate: 0, 8, 16 or 24, so that many accesses are aligned
+        word = word & ~(7 << low) | draw.randrange(4) << low + 3
     return word | (draw.getrandbits(7) << 25 if draw.random() < 0.1 else 0)
 
 
@@ -416,7 +422,7 @@ def check_random(count):
     if status or said or got != [""]:
         stop(f"random scripts: status {status}, {said!r}, and {len(got)} lines more")
     seen = [line[0] for lines in wanted for line in lines]
-    rare = [answer for answer in "012345678" if seen.count(answer) < 20]
+    rare = [answer for answer in "0123456789" if seen.count(answer) < 20]
     if rare:
         stop(f"random scripts seldom give {rare}")
     return sum(len(lines) for lines in wanted)

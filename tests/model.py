@@ -225,7 +225,8 @@ class Machine:
         return 1, 0
 
     def pairs(self, allowance, sides, single, size, element):
-        """sides: for source and destination whether it walks, and its mask; element gives a fault's address or None."""
+        """sides: for source and destination whether it walks, and its mask; element gives None, or a fault's answer and
+        address."""
         while allowance:
             places = []
             for (walks, on), offset in zip(sides, (self.source, self.destination)):
@@ -235,10 +236,10 @@ class Machine:
                 places.append(p)
             if any(walks and p == self.vl for (walks, _), p in zip(sides, places)):
                 return self.ended(size)
-            address = element(*places)
-            if address is not None:
+            fault = element(*places)
+            if fault is not None:
                 self.source, self.destination = places
-                return 5, address
+                return fault
             after = [p + 1 if walks else 0 for (walks, _), p in zip(sides, places)]
             if single or any(walks and p == self.vl for (walks, _), p in zip(sides, after)):
                 return self.ended(size)
@@ -259,6 +260,12 @@ class Machine:
         real, vector, _ = operand
         return (self.x[real + i] + offset if vector else self.x[real] + offset + i * size) & M64
 
+    def fault(self, address, size):
+        """Answer and address of an access that is refused, or None."""
+        if address % size:
+            return 9, address
+        return (5, address) if address + size > len(self.memory) else None
+
     def load(self, keys, names, allowance, word):
         funct3 = word >> 12 & 7
         size, offset = 2 ** (funct3 & 3), sext(word >> 20, 12)
@@ -267,8 +274,9 @@ class Machine:
 
         def element(i, j):
             address = self.address(names[1], offset, i, size)
-            if address + size > len(self.memory):
-                return address
+            fault = self.fault(address, size)
+            if fault is not None:
+                return fault
             value = int.from_bytes(self.memory[address:address + size], "little")
             self.put(to + j if to_vector else to, value if funct3 & 4 else sext(value, 8 * size))
             return None
@@ -282,8 +290,9 @@ class Machine:
 
         def element(i, j):
             address = self.address(names[1], offset, j, size)
-            if address + size > len(self.memory):
-                return address
+            fault = self.fault(address, size)
+            if fault is not None:
+                return fault
             value = self.x[real + i if vector else real] & 2 ** (8 * size) - 1
             self.memory[address:address + size] = value.to_bytes(size, "little")
             return None

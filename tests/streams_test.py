@@ -14,6 +14,11 @@ CRATE = ROOT / "crates" / "test_streams"
 stream = module("stream")
 
 
+def offset(draw):
+    """Of a load or store; mostly divisible by 8, so that most accesses are aligned."""
+    return 8 * draw.randrange(256) + draw.choice([0, 0, 0, 0, 0, 0, 0, 1, 2, 4])
+
+
 def longer_than_a_buffer():
     """2,000 records, so that records lie across the edges of what is read at a time."""
     draw = random.Random(5)
@@ -23,8 +28,8 @@ def longer_than_a_buffer():
             f"reg x{draw.randrange(50, 58)} {draw.randrange(2**64)}",
             f"mem {draw.randrange(4089)} {draw.randrange(2**64)}",
             f"run add x5,x6,x5 allow {draw.randrange(1, 9)}",
-            f"run ld x5,{draw.randrange(2048)}(x0) allow {draw.randrange(1, 9)}",
-            f"run sd x5,{draw.randrange(2048)}(x0) allow {draw.randrange(1, 9)}",
+            f"run ld x5,{offset(draw)}(x0) allow {draw.randrange(1, 9)}",
+            f"run sd x5,{offset(draw)}(x0) allow {draw.randrange(1, 9)}",
             f"run c.mv x6,x5 allow {draw.randrange(1, 9)}",
         ]))
     return "\n".join(lines) + "\n"

@@ -144,27 +144,55 @@ static void refusal_of_library(const char *name, uint64_t expected)
     put_row("refusals", name, expected, counts);
 }
 
+/* x7 a vector: at a scalar address the last element is misaligned only where the first is. */
+static void start_vector_address(void)
+{
+    start.register_table[1] = 0x8087;
+    for (unsigned i = 1; i < 64; i++)
+        start.registers[i] = 8 * i;
+}
+
+/* One call in the state that stands. */
+static void refusal(const char *name, uint32_t word, int expected)
+{
+    uint64_t counts[HANDLERS];
+    count(name, word, 64, 0, expected, counts);
+    put_row("refusals", name, (uint64_t)expected, counts);
+}
+
+static void memory_faults(void)
+{
+    static const struct bench *const ld = &cases[4];
+    start_case(ld, 64);
+    size = 0;
+    refusal("LD, outside memory at the first element", ld->word, SIMPLEV_FAULT);
+    start_case(ld, 64);
+    size = FIRST_ADDRESS + 63 * 8;
+    refusal("LD, outside memory at the last element", ld->word, SIMPLEV_FAULT);
+    start_case(ld, 64);
+    start_vector_address();
+    start.registers[63] = MEMORY_SIZE;
+    refusal("LD, x7 a vector, outside memory at the last element", ld->word, SIMPLEV_FAULT);
+    start_case(ld, 64);
+    start.registers[7] += 1;
+    refusal("LD, misaligned at the first element", ld->word, SIMPLEV_MISALIGNED);
+    start_case(ld, 64);
+    start_vector_address();
+    start.registers[63] += 1;
+    refusal("LD, x7 a vector, misaligned at the last element", ld->word, SIMPLEV_MISALIGNED);
+}
+
 static void refusals(void)
 {
-    static const struct bench *const add = &cases[0], *const ld = &cases[4];
-    uint64_t counts[HANDLERS];
+    static const struct bench *const add = &cases[0];
     start_case(add, 64);
-    count("an unknown word", 0xffffffff, 64, 0, SIMPLEV_UNKNOWN_WORD, counts);
-    put_row("refusals", "an unknown word (0xffffffff)", SIMPLEV_UNKNOWN_WORD, counts);
+    refusal("an unknown word (0xffffffff)", 0xffffffff, SIMPLEV_UNKNOWN_WORD);
     start.register_table[1] = 0xc186;
-    count("a vector past the registers", add->word, 64, 0, SIMPLEV_PAST_REGISTERS, counts);
-    put_row("refusals", "ADD, x6 a vector past register 127", SIMPLEV_PAST_REGISTERS, counts);
+    refusal("ADD, x6 a vector past register 127", add->word, SIMPLEV_PAST_REGISTERS);
     start_case(add, 64);
     start.register_table[1] = 0x80a6;
     refusal_of_library("ADD, x6 of another width", SIMPLEV_BAD_WIDTH);
-    start_case(ld, 64);
-    size = 0;
-    count("a fault at the first element", ld->word, 64, 0, SIMPLEV_FAULT, counts);
-    put_row("refusals", "LD, a fault at the first element", SIMPLEV_FAULT, counts);
-    start_case(ld, 64);
-    size = 18 + 63 * 8;
-    count("a fault at the last element", ld->word, 64, 0, SIMPLEV_FAULT, counts);
-    put_row("refusals", "LD, a fault at the last element", SIMPLEV_FAULT, counts);
+    memory_faults();
     start_case(add, 64);
     start.control[SIMPLEV_MVL] = 0;
     refusal_of_library("ADD, MVL 0", SIMPLEV_OUT_OF_SHAPE);

@@ -23,6 +23,9 @@ const struct instruction instructions[] = {
 #define INSTRUCTIONS (int)(sizeof instructions / sizeof *instructions)
 const int instruction_count = INSTRUCTIONS;
 
+/* The choices of MEMORY, for loads and stores. */
+enum { ALIGNED, ODD, FOUR_MORE, LAST_MISALIGNED, LAST_OUTSIDE, NO_MEMORY, MEMORIES };
+
 #define WORDS(...) (const char *const[]){ __VA_ARGS__ }
 #define MASKS "none", "all on", "the last alone", "the last 4", "the last 16", "the first alone", "all off", \
               "every second"
@@ -51,8 +54,8 @@ static const struct factor {
     [INVERT] = { "inverted masks", 2, WORDS("no", "yes") },
     [ZEROING] = { "zeroing", 2, WORDS("no", "yes") },
     [WIDTH] = { "width", 4, WORDS("00", "of x5 01", "of x6 01", "of x7 01") },
-    [MEMORY] = { "addresses", 6, WORDS("multiples of 8", "8n+1", "8n+4", "with a fault at the last",
-                                       "8n+1 with a fault at the last", "without memory") },
+    [MEMORY] = { "addresses", MEMORIES, WORDS("multiples of 8", "8n+1", "8n+4", "misaligned at the last",
+                                              "outside memory at the last", "without memory") },
     [VALUES] = { "values", 5, WORDS("0", "-1", "-2^63", "mixed", "-2^63, x7 -1") },
     [BASE] = { "x5 at", 3, WORDS("64", "0", "1") },
     [ALLOWANCE] = { "allowance", 2, WORDS("VL", "65535") },
@@ -73,10 +76,8 @@ static unsigned key(const state s, unsigned operand)
     return s[KEYS] ? 5 : 5 + operand;
 }
 
-static uint32_t word_of(const state s)
+uint32_t word_with(const struct instruction *i, uint32_t five, uint32_t six, uint32_t seven)
 {
-    const struct instruction *i = &instructions[s[INSTRUCTION]];
-    uint32_t five = 5, six = key(s, 1), seven = key(s, 2);
     switch (i->form) {
     case REGISTER: return i->bits | five << 7 | six << 15 | seven << 20;
     case STORE: return i->bits | 8 << 7 | six << 15 | five << 20;
@@ -135,33 +136,43 @@ static uint64_t mask_word(const state s, unsigned operand, unsigned vl)
     return s[INVERT] ? ~on : on;
 }
 
-/* Values and masks, and addresses for the registers that x6 stands for; gives the size of the memory. */
+/* Addresses for the registers that x6 stands for; gives the size of the memory. At a scalar address the last element is
+   misaligned only where the first is, and it is outside memory by the size. */
+static size_t place_addresses(const state s, unsigned vl)
+{
+    static const uint8_t remainders[MEMORIES] = { [ODD] = 1, [FOUR_MORE] = 4 };
+    unsigned base = base_of(s, s[KEYS] ? 0 : 1), bytes = 1u << (instructions[s[INSTRUCTION]].bits >> 12 & 3);
+    int kind = s[s[KEYS] ? KIND_5 : KIND_6], vector = !kind;
+    for (unsigned i = 0; i < vl; i++)
+        machine.registers[base + i] = 8 * i + remainders[s[MEMORY]];
+    if (kind == 2)
+        machine.registers[key(s, 1)] = remainders[s[MEMORY]];
+    if (vector && s[MEMORY] == LAST_MISALIGNED)
+        machine.registers[base + vl - 1] += 1;
+    if (vector && s[MEMORY] == LAST_OUTSIDE)
+        machine.registers[base + vl - 1] = 1ull << 40;
+    if (!vector && s[MEMORY] == LAST_OUTSIDE)
+        return 8 + vl * bytes - 1;
+    return s[MEMORY] == NO_MEMORY ? 0 : SIZE;
+}
+
+/* Values, masks and addresses; gives the size of the memory. */
 static size_t place_values(const state s, unsigned vl)
 {
     static const uint64_t values[] = { 0, ~0ull, 1ull << 63, 0, 1ull << 63 };
-    static const uint8_t unaligned[] = { 0, 1, 4, 0, 1, 0 };
     enum form form = instructions[s[INSTRUCTION]].form;
-    unsigned base = base_of(s, s[KEYS] ? 0 : 1), bytes = 1u << (instructions[s[INSTRUCTION]].bits >> 12 & 3);
-    int fault = s[MEMORY] == 3 || s[MEMORY] == 4, kind = s[s[KEYS] ? KIND_5 : KIND_6];
+    size_t size = SIZE;
     for (unsigned i = 0; i < 128; i++)
         machine.registers[i] = s[VALUES] == 3 ? i * 0x9e3779b97f4a7c15 : values[s[VALUES]];
     if (s[VALUES] == 4)
         machine.registers[7] = ~0ull;
-    if (form == LOAD || form == STORE) {
-        for (unsigned i = 0; i < vl; i++)
-            machine.registers[base + i] = 8 * i + unaligned[s[MEMORY]];
-        if (fault && !kind)
-            machine.registers[base + vl - 1] = 1ull << 40;
-        if (kind == 2)
-            machine.registers[key(s, 1)] = unaligned[s[MEMORY]];
-    }
+    if (form == LOAD || form == STORE)
+        size = place_addresses(s, vl);
     for (unsigned operand = 0; operand < 3; operand++)
         if (s[MASK_5 + operand])
             machine.registers[mask_register(s, operand)] = mask_word(s, operand, vl);
     machine.registers[0] = 0;
-    if (fault && kind)
-        return 8 + unaligned[s[MEMORY]] + vl * bytes - 1;
-    return s[MEMORY] == 5 ? 0 : SIZE;
+    return size;
 }
 
 uint16_t allowance_at(int limit, unsigned vl)
@@ -183,7 +194,8 @@ uint64_t counted_at(const state s, int limit, uint64_t *answer)
     machine.control[SIMPLEV_SOURCE] = source[s[OFFSETS]];
     machine.control[SIMPLEV_DESTINATION] = destination[s[OFFSETS]];
     place_entries(s);
-    return counted_run(&machine, word_of(s), allowance, memory, size, answer);
+    return counted_run(&machine, word_with(&instructions[s[INSTRUCTION]], 5, key(s, 1), key(s, 2)), allowance, memory,
+                       size, answer);
 }
 
 int choices_of(int factor)

@@ -18,6 +18,9 @@ extern const int instruction_count;
 enum { INSTRUCTION, LENGTH, OFFSETS, CFG, KEYS, PLACE, TWICE, OTHERS, MASK_PLACE, MASK_TWICE, MASK_OTHERS, KIND_5,
        KIND_6, KIND_7, MASK_5, MASK_6, MASK_7, INVERT, ZEROING, WIDTH, MEMORY, VALUES, BASE, ALLOWANCE, FACTORS };
 
+/* The word with these keys; the offset of a load or store is 8, so that it is aligned where its register is. */
+uint32_t word_with(const struct instruction *i, uint32_t five, uint32_t six, uint32_t seven);
+
 typedef uint8_t state[FACTORS];
 
 int choices_of(int factor);

@@ -148,6 +148,7 @@ static void put_dearest(struct dearest *d, int limit)
 
 #define RANDOM_CALLS 1000000
 
+/* The last two kinds are addresses in memory, most of them aligned. */
 static uint64_t random_value(void)
 {
     switch (below(8)) {
@@ -156,7 +157,8 @@ static uint64_t random_value(void)
     case 2: return ~0ull;
     case 3: return ~0ull << below(64);
     case 4: return ~(~0ull << below(64));
-    default: return below(600);
+    case 5: return below(600);
+    default: return 8 * below(75);
     }
 }
 
@@ -194,8 +196,8 @@ static void random_machine(void)
 static uint32_t random_word(void)
 {
     const struct instruction *i = &instructions[below((uint64_t)instruction_count)];
-    uint64_t rd = 5 + below(3), rs1 = below(2) ? rd : 5 + below(3), rs2 = below(2) ? rs1 : 5 + below(3);
-    return (uint32_t)(i->bits | rd << 7 | (i->form == MOVE ? rs2 << 2 : rs1 << 15 | rs2 << 20));
+    uint64_t first = 5 + below(3), second = below(2) ? first : 5 + below(3), third = below(2) ? second : 5 + below(3);
+    return word_with(i, (uint32_t)first, (uint32_t)second, (uint32_t)third);
 }
 
 /* What a machine has but for its registers. */

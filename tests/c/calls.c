@@ -119,6 +119,42 @@ static void runs(void)
     GIVES(simplev_machine_run(&m, sd, 9, memory, 15, &v), SIMPLEV_FAULT, 8);
 }
 
+/* A misaligned access, to which a mask skips: its address is given, and nothing changes but the offsets. The words are
+ * LD x5, 0(x6) and SD x5, 0(x6), where x5 is the vector at x40 and x6 the one at x50. */
+static void misaligned(void)
+{
+    const uint32_t ld = 0x00033283u, sd = 0x00533023u;
+    uint8_t memory[32], zero[32];
+    struct simplev_machine expected;
+    memset(memory, 0, sizeof memory);
+    memset(zero, 0, sizeof zero);
+    simplev_machine_fresh(&m);
+    GIVES(simplev_machine_set_state_word(&m, 0x180000c3u, &v), SIMPLEV_DONE, 0); /* MVL 4, VL 4 */
+    GIVES(simplev_machine_set_register_entry(&m, 0, 0xa885, &v), SIMPLEV_DONE, 0);
+    GIVES(simplev_machine_set_register_entry(&m, 1, 0xb286, &v), SIMPLEV_DONE, 0);
+    GIVES(simplev_machine_set_predicate_entry(&m, 0, 0x3106, &v), SIMPLEV_DONE, 0); /* mask of x6: x3 */
+    GIVES(simplev_machine_set_register(&m, 3, 12, &v), SIMPLEV_DONE, 0);
+    GIVES(simplev_machine_set_register(&m, 40, 5, &v), SIMPLEV_DONE, 0);
+    GIVES(simplev_machine_set_register(&m, 52, 20, &v), SIMPLEV_DONE, 0);
+    expected = m;
+    expected.control[SIMPLEV_SOURCE] = 2;
+    GIVES(simplev_machine_run(&m, ld, 65535, memory, sizeof memory, &v), SIMPLEV_MISALIGNED, 20);
+    CHECK(memcmp(&m, &expected, sizeof m) == 0);
+    GIVES(simplev_machine_set_vl(&m, 4, &v), SIMPLEV_DONE, 4);
+    expected = m;
+    expected.control[SIMPLEV_DESTINATION] = 2;
+    GIVES(simplev_machine_run(&m, sd, 65535, memory, sizeof memory, &v), SIMPLEV_MISALIGNED, 20);
+    CHECK(memcmp(&m, &expected, sizeof m) == 0 && memcmp(memory, zero, sizeof memory) == 0);
+    GIVES(simplev_machine_step(&m, sd, NULL, 0, &v), SIMPLEV_MISALIGNED, 20);
+    GIVES(simplev_machine_set_register(&m, 52, UINT64_MAX, &v), SIMPLEV_DONE, 0);
+    GIVES(simplev_machine_run(&m, sd, 1, memory, sizeof memory, &v), SIMPLEV_MISALIGNED, UINT64_MAX);
+    GIVES(simplev_machine_set_register(&m, 52, 32, &v), SIMPLEV_DONE, 0);
+    GIVES(simplev_machine_run(&m, sd, 1, memory, sizeof memory, &v), SIMPLEV_FAULT, 32);
+    GIVES(simplev_machine_set_register(&m, 52, 24, &v), SIMPLEV_DONE, 0);
+    GIVES(simplev_machine_step(&m, sd, memory, sizeof memory, &v), SIMPLEV_PAUSED, 0);
+    CHECK(memory[24] == 5 && m.control[SIMPLEV_SOURCE] == 1 && m.control[SIMPLEV_DESTINATION] == 3);
+}
+
 /* A run of each kind, and a step, on a memory of no bytes: NULL, whatever the size says. */
 static void without_memory(void)
 {
@@ -193,6 +229,7 @@ int main(void)
     settings();
     readings();
     runs();
+    misaligned();
     without_memory();
     out_of_shape();
     printf("%d of %d checks hold\n", checks - wrong, checks);

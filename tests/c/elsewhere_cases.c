@@ -12,9 +12,9 @@
 #define MASKS 120 /* mask registers are from here on, all others below */
 
 static uint8_t whole[BASE + sizeof ram];
-static unsigned long answers[9], in_one_call, by_element;
+static unsigned long answers[10], in_one_call, by_element;
 
-/* Element by element: a step without memory gives the address, and one that is not in RAM is the fault. */
+/* Element by element: a step without memory gives the address; one that is misaligned or not in RAM is the fault. */
 static uint32_t run_expected(struct simplev_machine *to, uint32_t word, uint16_t allowance, uint64_t *address)
 {
     const uint64_t bytes = UINT64_C(1) << (word >> 12 & 3);
@@ -27,10 +27,17 @@ static uint32_t run_expected(struct simplev_machine *to, uint32_t word, uint16_t
     return answer;
 }
 
+/* Mostly divisible by 8, so that most accesses are aligned. */
+static uint64_t divisible(uint64_t number)
+{
+    return percent(95) ? number & ~UINT64_C(7) : number;
+}
+
 /* Mostly an address in RAM, with room for the offsets that most words have. */
 static uint64_t value(void)
 {
-    return percent(95) ? BASE + below(sizeof ram - 80) : any() % (2 * BASE);
+    const uint64_t in_ram = BASE + below(sizeof ram - 80);
+    return percent(95) ? divisible(in_ram) : any() % (2 * BASE);
 }
 
 /* Four keys, whose registers are few, so that operands overlap. */
@@ -59,7 +66,8 @@ static void fill(struct simplev_machine *to)
 static uint32_t load_or_store(void)
 {
     const uint32_t address = percent(90) ? 4 + (uint32_t)below(4) : 0, other = 4 + (uint32_t)below(4);
-    const uint32_t offset = percent(90) ? (uint32_t)below(64) : (uint32_t)below(4096);
+    const uint32_t any_offset = percent(90) ? (uint32_t)below(64) : (uint32_t)below(4096);
+    const uint32_t offset = (uint32_t)divisible(any_offset);
     if (percent(50))
         return offset << 20 | address << 15 | (uint32_t)below(7) << 12 | other << 7 | 0x03;
     return offset >> 5 << 25 | other << 20 | address << 15 | (uint32_t)below(4) << 12 | (offset & 31) << 7 | 0x23;
@@ -103,7 +111,8 @@ int main(void)
     }
     printf("%d loads and stores on RAM elsewhere are right: %lu in one call, %lu by element; ", CASES, in_one_call,
            by_element);
-    printf("%lu done, %lu paused, %lu faults\n", answers[SIMPLEV_DONE], answers[SIMPLEV_PAUSED],
-           answers[SIMPLEV_FAULT]);
-    return in_one_call == 0 || by_element == 0 || answers[SIMPLEV_PAUSED] == 0 || answers[SIMPLEV_FAULT] == 0;
+    printf("%lu done, %lu paused, %lu not in RAM, %lu misaligned\n", answers[SIMPLEV_DONE], answers[SIMPLEV_PAUSED],
+           answers[SIMPLEV_FAULT], answers[SIMPLEV_MISALIGNED]);
+    return in_one_call == 0 || by_element == 0 || answers[SIMPLEV_PAUSED] == 0 || answers[SIMPLEV_FAULT] == 0 ||
+           answers[SIMPLEV_MISALIGNED] == 0;
 }

@@ -20,6 +20,13 @@ static void take(const void *from, size_t size)
         hash = (hash ^ bytes[i]) * 0x100000001B3ULL; /* FNV-1a */
 }
 
+/* The immediate of most loads and stores made divisible by 8, as most addresses are. */
+static uint32_t divisible(uint32_t w)
+{
+    uint32_t opcode = w & 0x7F, low_bits = opcode == 0x03 ? 0x00700000 : opcode == 0x23 ? 0x00000380 : 0;
+    return percent(85) ? w & ~low_bits : w;
+}
+
 /* Words with all fields but the registers and the immediate: each opcode with its functions. */
 static uint32_t word(void)
 {
@@ -52,7 +59,7 @@ static uint32_t word(void)
     case 4:
         return form | registers | (bits & 0x01F00000);
     default:
-        return immediate_form | registers | (bits & upper);
+        return divisible(immediate_form | registers | (bits & upper));
     }
 }
 
@@ -80,11 +87,18 @@ static unsigned key(uint32_t w)
     return w >> places[below(4)] & 31;
 }
 
+/* Mostly aligned for every access. */
+static uint64_t address(void)
+{
+    uint64_t in_memory = below(MEMORY);
+    return percent(95) ? in_memory & ~UINT64_C(7) : in_memory;
+}
+
 static void fill(struct simplev_machine *m, uint32_t w)
 {
     simplev_machine_fresh(m);
     for (int i = 1; i < SIMPLEV_REGISTERS; i++)
-        m->registers[i] = percent(60) ? below(MEMORY) : value();
+        m->registers[i] = percent(60) ? address() : value();
     m->control[SIMPLEV_PC] = any();
     m->control[SIMPLEV_MVL] = 1 + below(64);
     m->control[SIMPLEV_VL] = 1 + below(m->control[SIMPLEV_MVL]);

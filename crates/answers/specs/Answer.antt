@@ -9,10 +9,11 @@ use Rattle.answers.specs.declared.Answer.the-variants.{
   UnknownWord,
   PastRegisters,
   BadWidth,
-  Fault,
+  Outside,
   OutOfShape,
   BadValue,
   NoSuchPlace,
+  Misaligned,
 }
 
 abbrev pub numberOf : Answer → ℕ
@@ -21,22 +22,24 @@ numberOf Paused = 1
 numberOf UnknownWord = 2
 numberOf PastRegisters = 3
 numberOf BadWidth = 4
-numberOf (Fault address) = 5
+numberOf (Outside address) = 5
 numberOf OutOfShape = 6
 numberOf BadValue = 7
 numberOf NoSuchPlace = 8
+numberOf (Misaligned address) = 9
 
--- the value of an accepted call, the address of a fault, and otherwise 0
+-- the value of an accepted call, the address of a memory fault, and otherwise 0
 abbrev pub valueOf : Answer → ℕ
 valueOf (Done value) = value
 valueOf Paused = 0
 valueOf UnknownWord = 0
 valueOf PastRegisters = 0
 valueOf BadWidth = 0
-valueOf (Fault address) = address
+valueOf (Outside address) = address
 valueOf OutOfShape = 0
 valueOf BadValue = 0
 valueOf NoSuchPlace = 0
+valueOf (Misaligned address) = address
 
 -- answer 0
 unfoldable pub accepts : Answer → Bool

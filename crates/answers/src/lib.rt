@@ -9,10 +9,11 @@ pub enum Answer {
     UnknownWord,
     PastRegisters,
     BadWidth,
-    Fault(u64),
+    Outside(u64),
     OutOfShape,
     BadValue,
     NoSuchPlace,
+    Misaligned(u64),
 }
 
 impl Answer {
@@ -25,14 +26,15 @@ impl Answer {
             Answer::UnknownWord => 2,
             Answer::PastRegisters => 3,
             Answer::BadWidth => 4,
-            Answer::Fault(_) => 5,
+            Answer::Outside(_) => 5,
             Answer::OutOfShape => 6,
             Answer::BadValue => 7,
             Answer::NoSuchPlace => 8,
+            Answer::Misaligned(_) => 9,
         }
     }
 
-    // The value of an accepted call, the address of a fault, and otherwise 0.
+    // The value of an accepted call, the address of a memory fault, and otherwise 0.
     pub fn value(self) -> u64
         ensures { λ r. ⌜ r ≡ valueOf self ⌝ }
     {
@@ -42,10 +44,11 @@ impl Answer {
             Answer::UnknownWord => 0,
             Answer::PastRegisters => 0,
             Answer::BadWidth => 0,
-            Answer::Fault(address) => address,
+            Answer::Outside(address) => address,
             Answer::OutOfShape => 0,
             Answer::BadValue => 0,
             Answer::NoSuchPlace => 0,
+            Answer::Misaligned(address) => address,
         }
     }
 

@@ -4,7 +4,7 @@ use mathlib.Core.Path.{_≡_, refl, sym}
 use mathlib.Core.Bool.{Bool, true, false, cond, _||_, true≢false}
 use native.Mathlib.Omega.{arith}
 use lib.Dec.{ltb}
-use Rattle.answers.specs.declared.Answer.the-variants.{Done, Fault}
+use Rattle.answers.specs.declared.Answer.the-variants.{Done}
 use Rattle.answers.specs.Answer.{pauses}
 use Rattle.walk_operands.specs.Mask.{isOn}
 use Rattle.walk_pairs.specs.declared.Side.{Side}
@@ -13,13 +13,15 @@ use Rattle.walk_pairs.specs.declared.Pair.the-variants.{Found, End}
 use Rattle.walk_pairs.specs.Side.{start, next, past}
 use Rattle.walk_pairs.proofs.Found.{found-rest, rests-from}
 use Rattle.walk_pausable.specs.Outcome.{Paused}
+use Rattle.walk_operations.specs.declared.position.Fault.{Fault}
+use Rattle.walk_operations.specs.declared.position.Fault.the-variants.{Misaligned, Outside}
 use Rattle.walk_operations.specs.declared.position.Position.{Position}
 use Rattle.walk_operations.specs.declared.position.Ran.{Ran}
 use Rattle.walk_operations.specs.declared.operation.OperationPlan.{OperationPlan}
 use Rattle.walk_transfers.specs.declared.sides.Sides.{Sides}
-use Rattle.walk_operations.specs.Context.{Context, pausing}
+use Rattle.walk_operations.specs.Context.{Context, faultAnswer, pausing}
 use Rattle.walk_operations.specs.Operation.{goOn, afterOn, positionAfter, operationUnit}
-use Rattle.walk_transfers.specs.Transfer.{Transferred, moved, outside, pairOf, afterPair, afterTransfer, atPair}
+use Rattle.walk_transfers.specs.Transfer.{Transferred, moved, refused, pairOf, afterPair, afterTransfer, atPair}
 use Rattle.walk_transfers.specs.Transfer.{transferUnit}
 use Rattle.bits.proofs.Booleans.{by-cond, or-false}
 
@@ -31,9 +33,10 @@ done-ends : (value : ℕ) → pauses (Done value) ≡ true → ⊥
 unfolding pauses
 done-ends value e = true≢false (sym e)
 
-fault-ends : (address : ℕ) → pauses (Fault address) ≡ true → ⊥
+fault-ends : (fault : Fault) (address : ℕ) → pauses (faultAnswer fault address) ≡ true → ⊥
 unfolding pauses
-fault-ends address e = true≢false (sym e)
+fault-ends Misaligned address e = true≢false (sym e)
+fault-ends Outside address e = true≢false (sym e)
 
 -- an operation counts by its destination offset
 module _ (vl : ℕ) (position : Position) where
@@ -100,7 +103,7 @@ transfer-rises s goes bytes transfer c = by (pairOf s (c .position)) refl
         (t : Transferred) → Paused pausing (afterTransfer s bytes c i j t) →
         counted s (c .position) < counted s (afterTransfer s bytes c i j t .state .position)
     by-transfer i j h k (moved after memory) = unfold afterTransfer in pair-rises s goes bytes (c .position) i j h k
-    by-transfer i j h k (outside address) = unfold afterTransfer in λ q. absurd (fault-ends address q)
+    by-transfer i j h k (refused fault address) = unfold afterTransfer in λ q. absurd (fault-ends fault address q)
 
     by :
         (q : Pair) → pairOf s (c .position) ≡ q → Paused pausing (atPair s bytes (transfer c) c q) →

@@ -7,6 +7,8 @@ pub mod Systems
 pub mod Cuts
 pub mod Advance
 pub mod Bound
+pub mod Exactly
+pub mod Accesses
 pub mod Faults
 pub mod Runs
 pub mod Stands

@@ -21,12 +21,15 @@ use Rattle.walk_transfers.specs.declared.sides.Sides.{Sides}
 use Rattle.walk_operations.specs.Context.{Context}
 use Rattle.walk_transfers.specs.SidesReady.{Within}
 use Rattle.walk_transfers.specs.Moving.{moveElement, moveUnit}
+use Rattle.walk_transfers.specs.Transfer.{Transferred}
+use Rattle.walk_accesses.specs.Alignment.{aligned, whereAligned}
 use Rattle.walk_accesses.specs.Loading.{addressAt, loadValue, loadElement, loadUnit, loadedTo}
 use Rattle.walk_accesses.specs.Storing.{storeElement, storeUnit, storedTo}
 use Rattle.walk_plans.specs.Plan.{operationPlan, movePlan, loadPlan, storePlan}
 use Rattle.walk_handler.specs.Prepare.{Plan, operation, move, load, store, prepared}
 use Rattle.walk_handler.specs.Unit.{unitOf}
 use Rattle.walk_handler.proofs.Served.{served-plan}
+use Rattle.bits.proofs.Booleans.{by-cond}
 use Rattle.claims_demands.specs.Premise.{MayWrite}
 use Rattle.claims_demands.proofs.RegistersKept.{unwritten, one-written}
 use Rattle.claims_demands.proofs.Units.{UnitSound, operation-sound}
@@ -39,13 +42,22 @@ module _ (Writes : ℕ → Type 0) (c : Context) where
   unfolding moveElement
   move-kept s i j w = one-written (c .registers) (registerAt (s .destination .place) j) _ w
 
+  -- an access that is refused writes no register
+  where-aligned-kept :
+      (address bytes : ℕ) (t : Transferred) → TransferKept Writes (c .registers) t →
+      TransferKept Writes (c .registers) (whereAligned address bytes t)
+  unfolding whereAligned
+  where-aligned-kept address bytes t k =
+      by-cond (TransferKept Writes (c .registers)) (aligned address bytes) (λ e. k) (λ e. tt)
+
   load-kept :
       (p : LoadPlan) (i j : ℕ) → Writes (registerAt (p .sides .destination .place) j) →
       TransferKept Writes (c .registers) (loadElement p c i j)
   unfolding loadElement
   load-kept p i j w =
       let address = addressAt (p .sides .source .place) (p .offset) (p .width) (c .registers) i in
-      by address (loadValue (c .memory) address (p .width) (p .signed))
+      where-aligned-kept address (bytesOf (p .width)) _
+      (by address (loadValue (c .memory) address (p .width) (p .signed)))
     where
       by : (address : ℕ) (l : Loaded) → TransferKept Writes (c .registers) (loadedTo p c address j l)
       by address (loads.Value value) = one-written (c .registers) (registerAt (p .sides .destination .place) j) _ w
@@ -55,8 +67,9 @@ module _ (Writes : ℕ → Type 0) (c : Context) where
   unfolding storeElement
   store-kept p i j =
       let address = addressAt (p .sides .destination .place) (p .offset) (p .width) (c .registers) j in
-      by address (getD (c .registers) (registerAt (p .sides .source .place) i) 0)
-      (storeAnswer (c .memory) address (bytesOf (p .width)))
+      where-aligned-kept address (bytesOf (p .width)) _
+      (by address (getD (c .registers) (registerAt (p .sides .source .place) i) 0)
+      (storeAnswer (c .memory) address (bytesOf (p .width))))
     where
       by : (address value : ℕ) (s : Stored) → TransferKept Writes (c .registers) (storedTo p c address value s)
       by address value stores.Done = unwritten (c .registers)

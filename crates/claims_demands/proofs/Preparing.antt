@@ -1,17 +1,17 @@
 -- What a word that was prepared says of its plan, and when it is prepared alike again.
-use Prim.Native.Nat.{ℕ, _≤_}
+use Prim.Native.Nat.{ℕ}
 use mathlib.Core.Logic.{inl, inr}
 use mathlib.Core.Path.{_≡_, refl}
 use mathlib.Core.Bool.{Bool, true, false, cond, not, _&&_}
 use mathlib.Core.List.{List}
 use native.Mathlib.Omega.{arith}
-use borrow.Author.Tests.{eqb-true, eqb-false, leb-true, not-true}
-use lib.Dec.{eqb, leb}
+use borrow.Author.Tests.{eqb-true, eqb-false, not-true}
+use lib.Dec.{eqb}
 use lib.ListN.{getD}
 use Rattle.answers.specs.declared.Answer.{Answer}
 use Rattle.answers.specs.declared.Answer.the-variants.{Done, UnknownWord, PastRegisters, BadWidth}
 use Rattle.answers.specs.Answer.{numberOf, valueOf, accepts}
-use Rattle.bits.specs.Lists.{all}
+use Rattle.bits.specs.Lists.{all, Among}
 use Rattle.bits.proofs.Booleans.{and-left, and-right}
 use Rattle.decode.specs.declared.decoded.ResolvedOperand.{ResolvedOperand}
 use Rattle.decode.specs.declared.decoded.Decoded.{Decoded}
@@ -22,7 +22,9 @@ use Rattle.walk_pausable.specs.Call.{refused, ready}
 use Rattle.walk_plans.specs.Operands.{operandsOf, defaultWidth, fitting, checkedOperands}
 use Rattle.walk_plans.specs.Plan.{operationPlan, movePlan, loadPlan, storePlan}
 use Rattle.walk_handler.specs.Prepare.{Plan, served, prepared}
+use Rattle.claims_demands.specs.Faults.{faults}
 use Rattle.claims_demands.specs.Premise.{IsMask}
+use Rattle.claims_demands.specs.Run.{runAnswers}
 
 module _ (registers again : List ℕ) where
   abbrev SameAt : ResolvedOperand → Type 0
@@ -54,24 +56,23 @@ module _ (registers again : List ℕ) where
 
 -- an answer that refuses a word: it is one of a run's, no pause and no fault, and has no value
 pub record Refusal (a : Answer) : Type 0 where
-  pub most : numberOf a ≤ 6
+  pub listed : Among (numberOf a) runAnswers
   pub ends : numberOf a ≡ 1 → ⊥
-  pub serves : numberOf a ≡ 5 → ⊥
+  pub faultless : faults a ≡ false
   pub value : valueOf a ≡ 0
 
--- tested all at once
+-- tested all at once, but for its place in the list
 pub refusal :
-    (a : Answer) → let n = numberOf a in
-    leb n 6 && not (eqb n 1) && not (eqb n 5) && eqb (valueOf a) 0 ≡ true → Refusal a
-refusal a h =
-    let n = numberOf a in
-    let served = and-left _ _ h in
-    let ended = and-left _ _ served in
+    (a : Answer) → Among (numberOf a) runAnswers →
+    not (eqb (numberOf a) 1) && not (faults a) && eqb (valueOf a) 0 ≡ true → Refusal a
+refusal a listed h =
+    let ended = not (eqb (numberOf a) 1) in
+    let tested = and-left (ended && not (faults a)) _ h in
     record {
-      most = leb-true n 6 (and-left _ _ ended);
-      ends = eqb-false n 1 (not-true _ (and-right (leb n 6) _ ended));
-      serves = eqb-false n 5 (not-true _ (and-right (leb n 6 && not (eqb n 1)) _ served));
-      value = eqb-true (valueOf a) 0 (and-right (leb n 6 && not (eqb n 1) && not (eqb n 5)) _ h);
+      listed = listed;
+      ends = eqb-false (numberOf a) 1 (not-true _ (and-left ended _ tested));
+      faultless = not-true _ (and-right ended _ tested);
+      value = eqb-true (valueOf a) 0 (and-right (ended && not (faults a)) _ h);
     }
 
 served-refusal : (vl : ℕ) (word : Decoded) (made : Plan) (a : Answer) → served vl word made ≡ refused a → Refusal a
@@ -83,8 +84,8 @@ served-refusal vl word made a = by (all defaultWidth (operandsOf word)) (all (fi
         let b = cond x (cond y (Done 0) PastRegisters) BadWidth in
         cond (eqb (numberOf b) 0) (ready made) (refused b) ≡ refused a → Refusal a
     by true true e = let z : _≡_ {A = ℕ} 0 1 = cc in absurd (omega arith)
-    by true false e = let f : a ≡ PastRegisters = cc in rw f (refusal PastRegisters refl)
-    by false y e = let f : a ≡ BadWidth = cc in rw f (refusal BadWidth refl)
+    by true false e = let f : a ≡ PastRegisters = cc in rw f (refusal PastRegisters (inr (inr (inr (inl refl)))) refl)
+    by false y e = let f : a ≡ BadWidth = cc in rw f (refusal BadWidth (inr (inr (inr (inr (inl refl))))) refl)
 
 pub prepared-refusal :
     (vl : ℕ) (registers : List ℕ) (word : Decoded) (a : Answer) → prepared vl registers word ≡ refused a → Refusal a
@@ -93,4 +94,5 @@ prepared-refusal vl registers (Operation w) a = served-refusal vl (Operation w) 
 prepared-refusal vl registers (Move w) a = served-refusal vl (Move w) _ a
 prepared-refusal vl registers (Load w) a = served-refusal vl (Load w) _ a
 prepared-refusal vl registers (Store w) a = served-refusal vl (Store w) _ a
-prepared-refusal vl registers Unknown a = λ e. let f : a ≡ UnknownWord = cc in rw f (refusal UnknownWord refl)
+prepared-refusal vl registers Unknown a =
+    λ e. let f : a ≡ UnknownWord = cc in rw f (refusal UnknownWord (inr (inr (inl refl))) refl)

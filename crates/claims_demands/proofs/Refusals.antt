@@ -1,6 +1,5 @@
 -- Each refusal of a run has exactly its condition.
 use Prim.Native.Nat.{ℕ}
-use mathlib.Core.Logic.{_↔_}
 use mathlib.Core.Path.{_≡_, refl, sym, _∙_}
 use mathlib.Core.Bool.{Bool, true, false, cond, true≢false}
 use mathlib.Core.List.{List}
@@ -22,6 +21,7 @@ use Rattle.machine.specs.Shape.{inShape}
 use Rattle.machine.specs.Run.{System, wordOn, prepare, unit, run}
 use Rattle.claims_demands.specs.Run.{refuses}
 use Rattle.claims_demands.specs.Refusals.{SomeOtherWidth, SomePastVector, RefusedBy, RefusedExactly}
+use Rattle.claims_demands.proofs.Exactly.{both, neither}
 use Rattle.claims_demands.proofs.Systems.{plan-of}
 use Rattle.claims_demands.proofs.Resolved.{word-small}
 use Rattle.claims_demands.proofs.Tested.{other-width, no-other-width, past-vector, no-past-vector}
@@ -58,12 +58,6 @@ module _ (Q : Prepared Answer Plan → Type 0) (vl : ℕ) (registers : List ℕ)
   by-word (Load w) = by-served (Load w) _ (λ e. let z : _≡_ {A = ℕ} 0 1 = cc in omega arith)
   by-word (Store w) = by-served (Store w) _ (λ e. let z : _≡_ {A = ℕ} 0 1 = cc in omega arith)
   by-word Unknown = λ c. c .unknown refl
-
-both : {A B : Type 0} → A → B → A ↔ B
-both a b = (λ x. b, λ y. a)
-
-neither : {A B : Type 0} → (A → ⊥) → (B → ⊥) → A ↔ B
-neither a b = (λ x. absurd (a x), λ y. absurd (b y))
 
 -- the number that is answered, by the first test that fails
 module _ (m : Machine) (d : Decoded) where

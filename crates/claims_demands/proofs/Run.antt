@@ -14,14 +14,14 @@ use Rattle.claims_demands.proofs.Units.{Walked}
 use Rattle.claims_demands.proofs.Preparing.{Refusal}
 use Rattle.claims_demands.proofs.Systems.{PlanOf, plan-of, plan-kept, prepare-refusal}
 use Rattle.claims_demands.proofs.Runs.{walked, by-preparation}
-use Rattle.claims_demands.proofs.Stands.{fault-known}
+use Rattle.claims_demands.proofs.Stands.{fault-known, faulted-known}
 
 refusal-sound : (s : System) (a : Answer) → Refusal a → Sound s (outcome a s)
-refusal-sound s a r = record { answer = r .most; value = λ f. r .value; refused = λ e. refl; shape = λ h. h }
+refusal-sound s a r = record { answer = r .listed; value = λ f. r .value; refused = λ e. refl; shape = λ h. h }
 
 walk-sound : (s t : System) → inShape (t .machine) ≡ true → (a : Answer) → Walked a → Sound s (outcome a t)
 walk-sound s t shape a w =
-    record { answer = w .most; value = w .value; refused = λ e. absurd (w .serves e); shape = λ h. shape }
+    record { answer = w .listed; value = w .value; refused = λ e. absurd (w .serves e); shape = λ h. shape }
 
 sound : (word n : ℕ) (s : System) → Sound s (run word n s)
 sound word n s =
@@ -33,4 +33,4 @@ sound word n s =
     walk-sound s (after .state) (kept .shaped) (after .answer) (walked word plan n s p))
 
 pub run-sound : RunSound
-run-sound = record { sound = sound; fault = fault-known }
+run-sound = record { sound = sound; fault = fault-known; faulted = faulted-known }

@@ -1,11 +1,13 @@
 -- A fault stands at the pair that failed, after the units before it.
 use Prim.Native.Nat.{ℕ}
 use mathlib.Core.Path.{_≡_, refl, sym, _∙_, ap}
-use mathlib.Core.Bool.{true, false}
-use native.Mathlib.Omega.{arith}
+use mathlib.Core.Bool.{true, false, true≢false}
+use lib.ListN.{length}
 use borrow.Author.Tests.{eqb-true, ne-eqb}
 use Rattle.answers.specs.declared.Answer.{Answer}
 use Rattle.answers.specs.Answer.{numberOf, pauses}
+use Rattle.walk_pairs.specs.declared.Pair.the-variants.{Found}
+use Rattle.walk_pausable.specs.Outcome.{Outcome}
 use Rattle.walk_pausable.specs.Walk.{walk}
 use Rattle.walk_pausable.specs.Call.{Prepared, refused, ready}
 use Rattle.walk_pausable.specs.Ending.{EndsAfter}
@@ -14,25 +16,40 @@ use Rattle.walk_operations.specs.Context.{context, atOffsets, pausing}
 use Rattle.walk_handler.specs.Prepare.{Plan}
 use Rattle.walk_handler.specs.Unit.{unitOf}
 use Rattle.machine.specs.Run.{System, contextOf, positionOf, prepare, unit, run}
+use Rattle.claims_demands.specs.Faults.{faults, Access, AccessAt, FaultedBy}
 use Rattle.claims_demands.specs.Run.{systemAtOffsets, pairAt, StandsAtFault}
 use Rattle.claims_demands.proofs.Systems.{prepare-refusal}
-use Rattle.claims_demands.proofs.Faults.{unit-fault, Faults, AtPair}
+use Rattle.claims_demands.proofs.Faults.{AtFault, unit-fault}
+use Rattle.claims_demands.proofs.Accesses.{unit-faulted-by}
 use Rattle.claims_demands.proofs.Runs.{run-walk, run-refused}
 
 is-paused : (a : Answer) → pauses a ≡ true → numberOf a ≡ 1
 unfolding pauses
 is-paused a e = eqb-true (numberOf a) 1 e
 
-fault-ends : (a : Answer) → Faults a → pauses a ≡ false
+fault-ends : (a : Answer) → faults a ≡ true → pauses a ≡ false
 unfolding pauses
-fault-ends a f = ne-eqb (numberOf a) 1 (λ e. omega (arith, e, f))
+fault-ends a f = ne-eqb (numberOf a) 1 (λ e. true≢false (sym f ∙ rw e))
 
 -- a unit that faults, on the machine and its memory
 fault-at :
-    (plan : Plan) (s : System) → Faults (unit plan s .answer) →
-    AtPair (pairAt plan (positionOf (s .machine))) (contextOf s) (unitOf plan (contextOf s) .state)
+    (plan : Plan) (s : System) → faults (unit plan s .answer) ≡ true →
+    AtFault plan (contextOf s) (unitOf plan (contextOf s))
 unfolding unit
 fault-at plan s = unit-fault plan (contextOf s)
+
+pub faulted-known :
+    (plan : Plan) (s : System) (i j : ℕ) (a : Access) → pairAt plan (positionOf (s .machine)) ≡ Found i j →
+    AccessAt plan (s .machine .registers) i j a → FaultedBy (length (s .memory)) a (unit plan s .answer)
+unfolding unit
+faulted-known plan s = unit-faulted-by plan (contextOf s)
+
+why-answered :
+    (plan : Plan) (s : System) (o : Outcome Answer System) (a : Access) → unit plan s ≡ o →
+    FaultedBy (length (s .memory)) a (unitOf plan (contextOf s) .answer) →
+    FaultedBy (length (s .memory)) a (o .answer)
+unfolding unit
+why-answered plan s o a e why = rw (← e) why
 
 stands-at :
     (plan : Plan) (s : System) (i j : ℕ) →
@@ -45,7 +62,7 @@ stands-at plan s i j e = rw e
 -- by the unit at which the walk ended
 stands-after :
     (word n : ℕ) (s : System) (plan : Plan) → prepare word s ≡ ready plan →
-    EndsAfter pausing (unit plan) n s (walk pausing (unit plan) n s) → Faults (run word n s .answer) →
+    EndsAfter pausing (unit plan) n s (walk pausing (unit plan) n s) → faults (run word n s .answer) ≡ true →
     StandsAtFault word n s
 stands-after word n s plan e ends f =
     let before = run-walk word (ends .units) s plan e in
@@ -65,20 +82,24 @@ stands-after word n s plan e ends f =
       state =
           sym (ap (λ o. o .state) last)
           ∙ stands-at plan (run word (ends .units) s .state) (at .source) (at .destination) (at .stands);
+      access = at .access;
+      accessed = at .accessed;
+      why = why-answered plan (run word (ends .units) s .state) (run word n s) (at .access) last (at .why);
     }
 
 fault-stands :
-    (word n : ℕ) (s : System) (plan : Plan) → prepare word s ≡ ready plan → Faults (run word n s .answer) →
+    (word n : ℕ) (s : System) (plan : Plan) → prepare word s ≡ ready plan → faults (run word n s .answer) ≡ true →
     StandsAtFault word n s
 fault-stands word n s plan e f =
     let ended : pauses (walk pausing (unit plan) n s .answer) ≡ false =
     rw (← run-walk word n s plan e) (fault-ends (run word n s .answer) f) in
     stands-after word n s plan e (walk-ending pausing (unit plan) n s ended) f
 
-pub fault-known : (word n : ℕ) (s : System) → Faults (run word n s .answer) → StandsAtFault word n s
+pub fault-known : (word n : ℕ) (s : System) → faults (run word n s .answer) ≡ true → StandsAtFault word n s
 fault-known word n s = by (prepare word s) refl
   where
-    by : (r : Prepared Answer Plan) → prepare word s ≡ r → Faults (run word n s .answer) → StandsAtFault word n s
+    by : (r : Prepared Answer Plan) → prepare word s ≡ r → faults (run word n s .answer) ≡ true → StandsAtFault word n s
     by (refused a) e f =
-        absurd (prepare-refusal word s a e .serves (rw (run-refused word n s a e) at f))
+        let g = rw (run-refused word n s a e) at f in
+        absurd (true≢false (sym g ∙ prepare-refusal word s a e .faultless))
     by (ready plan) e f = fault-stands word n s plan e f

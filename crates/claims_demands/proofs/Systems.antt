@@ -1,5 +1,6 @@
 -- A unit on the machine and its memory.
 use Prim.Native.Nat.{ℕ}
+use mathlib.Core.Logic.{inl, inr}
 use mathlib.Core.Path.{_≡_, refl}
 use mathlib.Core.Bool.{Bool, true, false, cond}
 use mathlib.Core.List.{List}
@@ -74,7 +75,7 @@ module _ (word : ℕ) (s : System) where
           cond t (prepared (s .machine .state .vl) (s .machine .registers) (wordOn word (s .machine)))
           (refused OutOfShape) ≡ refused a → Refusal a
       by true = prepared-refusal (s .machine .state .vl) (s .machine .registers) (wordOn word (s .machine)) a
-      by false = λ e. let f : a ≡ OutOfShape = cc in rw f (refusal OutOfShape refl)
+      by false = λ e. let f : a ≡ OutOfShape = cc in rw f (refusal OutOfShape (inr (inr (inr (inr (inr (inr (inl refl))))))) refl)
 
   pub sound-on :
       (plan : Plan) → PlanOf word plan s →

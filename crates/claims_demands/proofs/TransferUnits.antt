@@ -12,7 +12,7 @@ use Rattle.walk_operations.specs.declared.position.Position.{Position}
 use Rattle.walk_operations.specs.Context.{Context}
 use Rattle.walk_transfers.specs.declared.sides.Sides.{Sides}
 use Rattle.walk_transfers.specs.SidesReady.{Within}
-use Rattle.walk_transfers.specs.Transfer.{Transferred, moved, outside}
+use Rattle.walk_transfers.specs.Transfer.{Transferred, moved, refused}
 use Rattle.walk_transfers.specs.Transfer.{pairOf, afterPair, afterTransfer, atPair, transferUnit}
 use Rattle.claims_demands.proofs.RegistersKept.{RegistersKept, unwritten}
 use Rattle.claims_demands.proofs.Units.{RanSound, UnitSound, paused-walked, ended-sound, faulted-sound}
@@ -29,7 +29,7 @@ module _ (s : Sides) (bytes : ℕ) (position : Position) (i j : ℕ) where
 -- what a transfer may leave of the registers
 abbrev pub TransferKept : (ℕ → Type 0) → List ℕ → Transferred → Type 0
 TransferKept Writes registers (moved after memory) = RegistersKept Writes registers after
-TransferKept Writes registers (outside address) = Unit {0}
+TransferKept Writes registers (refused fault address) = Unit {0}
 
 module _ (s : Sides) (bytes : ℕ) (Writes : ℕ → Type 0) (c : Context) (w : Within (s .vl) (c .position)) where
   after-transfer-sound :
@@ -38,8 +38,8 @@ module _ (s : Sides) (bytes : ℕ) (Writes : ℕ → Type 0) (c : Context) (w : 
   unfolding afterTransfer
   after-transfer-sound i j (moved after memory) r =
       record { answer = after-pair-sound s bytes (c .position) i j; kept = r }
-  after-transfer-sound i j (outside address) r =
-      record { answer = faulted-sound (c .position) address i j; kept = unwritten (c .registers) }
+  after-transfer-sound i j (refused fault address) r =
+      record { answer = faulted-sound (c .position) fault address i j; kept = unwritten (c .registers) }
 
   pub transfer-sound :
       (transfer : Context → ℕ → ℕ → Transferred) →

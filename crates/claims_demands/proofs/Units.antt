@@ -1,9 +1,9 @@
 -- What holds of every unit, whatever it answers: the registers that it leaves, and its answers.
-use Prim.Native.Nat.{ℕ, _+_, _<_, _≤_}
+use Prim.Native.Nat.{ℕ, _+_, _<_}
+use mathlib.Core.Logic.{inl, inr}
 use mathlib.Core.Path.{_≡_, refl, sym}
-use mathlib.Core.Bool.{true, true≢false}
+use mathlib.Core.Bool.{true, false, true≢false}
 use mathlib.Core.List.{List}
-use native.Mathlib.Omega.{arith}
 use lib.Dec.{ltb}
 use Rattle.answers.specs.declared.Answer.{Answer}
 use Rattle.answers.specs.declared.Answer.the-variants.{Paused}
@@ -11,23 +11,27 @@ use Rattle.answers.specs.Answer.{numberOf, valueOf}
 use Rattle.walk_operands.specs.Place.{registerAt}
 use Rattle.walk_operands.specs.Mask.{isOn}
 use Rattle.walk_pausable.specs.Outcome.{Outcome}
+use Rattle.walk_operations.specs.declared.position.Fault.{Fault}
+use Rattle.walk_operations.specs.declared.position.Fault.the-variants.{Misaligned, Outside}
 use Rattle.walk_operations.specs.declared.position.Position.{Position}
 use Rattle.walk_operations.specs.declared.position.Ran.{Ran}
 use Rattle.walk_operations.specs.declared.operation.OperationPlan.{OperationPlan}
 use Rattle.walk_operations.specs.Context.{Context, ended, faulted}
 use Rattle.walk_operations.specs.Operation.{elementOf, registersAfter, goOn, afterOn, positionAfter, operationUnit}
+use Rattle.bits.specs.Lists.{Among}
 use Rattle.bits.proofs.Booleans.{by-cond}
-use Rattle.claims_demands.specs.Run.{refuses}
+use Rattle.claims_demands.specs.Faults.{faults}
+use Rattle.claims_demands.specs.Run.{runAnswers, refuses}
 use Rattle.claims_demands.proofs.RegistersKept.{RegistersKept, unwritten, one-written}
 
 -- an answer of a walk: it refuses nothing, and has no value but a fault's address
 pub record Walked (a : Answer) : Type 0 where
-  pub most : numberOf a ≤ 6
+  pub listed : Among (numberOf a) runAnswers
   pub serves : refuses a ≡ true → ⊥
-  pub value : (numberOf a ≡ 5 → ⊥) → valueOf a ≡ 0
+  pub value : faults a ≡ false → valueOf a ≡ 0
 
 pub paused-walked : Walked Paused
-paused-walked = record { most = omega arith; serves = λ e. true≢false (sym e); value = λ f. refl }
+paused-walked = record { listed = inr (inl refl); serves = λ e. true≢false (sym e); value = λ f. refl }
 
 -- `Writes` says which registers may be written
 pub record UnitSound (Writes : ℕ → Type 0) (registers : List ℕ) (o : Outcome Answer Context) : Type 0 where
@@ -40,11 +44,19 @@ RanSound ran = Walked (ran .answer)
 
 module _ (position : Position) where
   pub ended-sound : (bytes : ℕ) → RanSound (ended bytes position)
-  ended-sound bytes = record { most = omega arith; serves = λ e. true≢false (sym e); value = λ f. refl }
+  ended-sound bytes = record { listed = inl refl; serves = λ e. true≢false (sym e); value = λ f. refl }
 
-  pub faulted-sound : (address i j : ℕ) → RanSound (faulted address position i j)
-  faulted-sound address i j =
-      record { most = omega arith; serves = λ e. true≢false (sym e); value = λ f. absurd (f refl) }
+  pub faulted-sound : (fault : Fault) (address i j : ℕ) → RanSound (faulted fault address position i j)
+  faulted-sound Misaligned address i j = record {
+    listed = inr (inr (inr (inr (inr (inr (inr (inl refl)))))));
+    serves = λ e. true≢false (sym e);
+    value = λ f. absurd (true≢false f);
+  }
+  faulted-sound Outside address i j = record {
+    listed = inr (inr (inr (inr (inr (inl refl)))));
+    serves = λ e. true≢false (sym e);
+    value = λ f. absurd (true≢false f);
+  }
 
   go-on-sound : (vl i : ℕ) → RanSound (goOn vl position i)
   unfolding goOn

@@ -1,8 +1,10 @@
 -- Demand 1, of the run call.
-use Prim.Native.Nat.{ℕ, _≤_, _<_}
+use Prim.Native.Nat.{ℕ, _<_}
 use mathlib.Core.Path.{_≡_}
-use mathlib.Core.Bool.{Bool, true, _||_}
+use mathlib.Core.Bool.{Bool, true, false, _||_}
+use mathlib.Core.List.{List, [], _∷_}
 use lib.Dec.{eqb}
+use lib.ListN.{length}
 use Rattle.answers.specs.declared.Answer.{Answer}
 use Rattle.answers.specs.Answer.{numberOf, valueOf}
 use Rattle.walk_pairs.specs.declared.Pair.{Pair}
@@ -16,6 +18,12 @@ use Rattle.machine.specs.Shape.{inShape}
 use Rattle.machine.specs.Update.{withState}
 use Rattle.machine.specs.Run.{System, system, positionOf, prepare, unit, run}
 use Rattle.state_word.specs.State.{withOffsets}
+use Rattle.bits.specs.Lists.{Among}
+use Rattle.claims_demands.specs.Faults.{faults, Access, AccessAt, FaultedBy}
+
+-- what a run answers
+abbrev pub runAnswers : List ℕ
+runAnswers = 0 ∷ 1 ∷ 2 ∷ 3 ∷ 4 ∷ 5 ∷ 6 ∷ 9 ∷ []
 
 -- answers 2, 3, 4 and 6
 abbrev pub refuses : Answer → Bool
@@ -32,8 +40,8 @@ pairAt (move s) position = pairOf s position
 pairAt (load p) position = pairOf (p .sides) position
 pairAt (store p) position = pairOf (p .sides) position
 
--- A fault leaves exactly the elements before it: fewer units than allowed paused, and what they left stays as it is,
--- with the offsets at the pair of positions that failed.
+-- A memory fault leaves exactly the elements before it: fewer units than allowed paused, and what they left stays as it
+-- is, with the offsets at the pair of positions that failed. The access of this pair is why it was answered.
 pub record StandsAtFault (word n : ℕ) (s : System) : Type 0 where
   pub units : ℕ
   pub fewer : units < n
@@ -45,12 +53,15 @@ pub record StandsAtFault (word n : ℕ) (s : System) : Type 0 where
   pub destination : ℕ
   pub pair : pairAt plan (positionOf (run word units s .state .machine)) ≡ Found source destination
   pub state : run word n s .state ≡ systemAtOffsets (run word units s .state) source destination
+  pub access : Access
+  pub accessed : AccessAt plan (run word units s .state .machine .registers) source destination access
+  pub why : FaultedBy (length (run word units s .state .memory)) access (run word n s .answer)
 
 -- what a run from s answers and leaves, o
 pub record Sound (s : System) (o : Outcome Answer System) : Type 0 where
-  -- the answer is one of the table's for a run, and the returned address is 0 except with 5
-  pub answer : numberOf (o .answer) ≤ 6
-  pub value : (numberOf (o .answer) ≡ 5 → ⊥) → valueOf (o .answer) ≡ 0
+  -- the answer is one of the table's for a run, and the returned address is 0 except with 5 and 9
+  pub answer : Among (numberOf (o .answer)) runAnswers
+  pub value : faults (o .answer) ≡ false → valueOf (o .answer) ≡ 0
   -- a refusal leaves machine and memory as they were
   pub refused : refuses (o .answer) ≡ true → o .state ≡ s
   -- a machine in shape stays in shape
@@ -58,4 +69,8 @@ pub record Sound (s : System) (o : Outcome Answer System) : Type 0 where
 
 pub record RunSound : Type 0 where
   pub sound : (word n : ℕ) (s : System) → Sound s (run word n s)
-  pub fault : (word n : ℕ) (s : System) → numberOf (run word n s .answer) ≡ 5 → StandsAtFault word n s
+  pub fault : (word n : ℕ) (s : System) → faults (run word n s .answer) ≡ true → StandsAtFault word n s
+  -- no access is refused for another reason, and none that has one is served
+  pub faulted :
+      (plan : Plan) (s : System) (i j : ℕ) (a : Access) → pairAt plan (positionOf (s .machine)) ≡ Found i j →
+      AccessAt plan (s .machine .registers) i j a → FaultedBy (length (s .memory)) a (unit plan s .answer)

@@ -22,7 +22,9 @@ use Rattle.walk_pausable.specs.Call.{begun}
 use Rattle.walk_operations.specs.Operation.{elementOf, registersAfter, goOn, afterOn, positionAfter, operationUnit}
 use Rattle.walk_transfers.specs.Transfer.{pairOf, afterPair, afterTransfer, atPair, transferUnit}
 use Rattle.walk_transfers.specs.Moving.{moveElement, moveUnit}
+use Rattle.walk_accesses.specs.Alignment.{aligned, whereAligned}
 use Rattle.walk_accesses.specs.Loading.{addressAt, loadValue, loadElement, loadUnit}
+use Rattle.walk_accesses.proofs.Doubles.{extended-double}
 use Rattle.walk_plans.specs.Operands.{defaultWidth, fitting, checkedOperands}
 use Rattle.bits.specs.Lists.{all}
 use Rattle.walk_plans.specs.Plan.{operationPlan, movePlan, loadPlan}
@@ -30,7 +32,7 @@ use Rattle.walk_handler.specs.Prepare.{served, prepared}
 use Rattle.machine.specs.Shape.{inShape, roomInShape, tablesInShape}
 use Rattle.machine.specs.Setting.{setStateWord, setRegisterEntry, setRegister}
 use Rattle.machine.specs.Run.{prepare, unit, run}
-use Rattle.claims_readings.proofs.Memories.{of-length, extended}
+use Rattle.claims_readings.proofs.Memories.{of-length}
 use Rattle.claims_readings.specs.Readings.{Readings, enabledBelow}
 use Rattle.claims_readings.specs.Machines.{
   putFrom,
@@ -55,10 +57,10 @@ unfolding accepts pauses verdict written computed enabledRange clearBelow entryA
     stateInShape ofWord wordOf goodWord inside located loaded funct3Rows funct6Rows funct7Rows firstForm lookUp resolved
     decoded decodedAs compressedMove registerAt fits onBits maskBy isOn start next past firstOn skipped pairFrom walk
     begun elementOf registersAfter goOn afterOn positionAfter operationUnit pairOf afterPair afterTransfer atPair
-    transferUnit moveElement moveUnit addressAt loadValue loadElement loadUnit all defaultWidth fitting checkedOperands
-    operationPlan movePlan loadPlan served prepared inShape roomInShape tablesInShape setStateWord setRegisterEntry
-    setRegister prepare unit run putFrom base settings holding tagged masked withLengths positioned nines
-    scalarDestination sourceMask destinationMask loading enabledBelow full sums
+    transferUnit moveElement moveUnit aligned whereAligned addressAt loadValue loadElement loadUnit all defaultWidth
+    fitting checkedOperands operationPlan movePlan loadPlan served prepared inShape roomInShape tablesInShape
+    setStateWord setRegisterEntry setRegister prepare unit run putFrom base settings holding tagged masked withLengths
+    positioned nines scalarDestination sourceMask destinationMask loading enabledBelow full sums
 readings = record {
   base-set = refl;
   p1 = λ memory. refl;
@@ -69,8 +71,10 @@ readings = record {
   p6 = λ memory. refl;
   p7 = λ memory. refl;
   p8 = λ memory. refl;
-  p9-short = of-length _ 40 (λ f bytes. rw (extended _ 24 bytes, extended _ 32 bytes));
-  p9-whole = of-length _ 48 (λ f bytes. rw (extended _ 24 bytes, extended _ 32 bytes, extended _ 40 bytes));
+  p9-short = of-length _ 40 (λ f bytes. rw (extended-double _ 24 bytes, extended-double _ 32 bytes));
+  p9-whole =
+      of-length _ 48
+      (λ f bytes. rw (extended-double _ 24 bytes, extended-double _ 32 bytes, extended-double _ 40 bytes));
   p10-read = refl;
   p10-set = refl;
   p11-9 = refl;

@@ -5,8 +5,18 @@ use Prim.Native.Nat.{ℕ, _+_, _<_, _≤_}
 use native.Mathlib.Omega.{arith}
 use borrow.Author.Tests.{leb-true, le-leb, lt-leb}
 use lib.Dec.{leb}
+use Rattle.scalar.specs.declared.width.Width.{Width}
+use Rattle.scalar.specs.declared.width.Width.the-variants.{Byte, Half, Word, Double}
+use Rattle.scalar.specs.Width.{bytesOf}
 use Rattle.memory.specs.declared.access.Access.the-variants.{Inside, Outside}
 use Rattle.memory.specs.Access.{inside, located}
+
+-- an access has a byte
+pub some-bytes : (width : Width) → 1 ≤ bytesOf width
+some-bytes Byte = omega arith
+some-bytes Half = omega arith
+some-bytes Word = omega arith
+some-bytes Double = omega arith
 
 module _ (size address n : ℕ) where
   pub is-inside : address + n ≤ size → Inside address ≡ located size address n

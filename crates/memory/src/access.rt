@@ -9,17 +9,16 @@ pub enum Access {
     Outside,
 }
 
-// The test of every access: its address is at most the last at which so many
-// bytes fit. The sum of address and bytes could overflow.
+// The test of every access: its address lies in memory, and from there on so many bytes do. The
+// sum of address and bytes could overflow.
 pub fn locate(size: usize, address: u64, width: Width) -> Access
     ensures { λ r. ⌜ r ≡ located size address (bytesOf width) ⌝ }
 {
     let end = size as u64;
-    let bytes = width.bytes();
-    if end < bytes {
+    if end <= address {
         return Access::Outside;
     }
-    if end - bytes < address {
+    if end - address < width.bytes() {
         return Access::Outside;
     }
     Access::Inside(address as usize)

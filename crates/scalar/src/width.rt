@@ -1,12 +1,12 @@
 ghost use mathlib.Core.Path.{_≡_};
 ghost use Rattle.scalar.specs.Width.{bytesOf};
 
-// The widths of an access: 1, 2, 4 or 8 bytes.
+// The widths of an access: 8, 4, 2 or 1 bytes.
 pub enum Width {
-    Byte,
-    Half,
-    Word,
     Double,
+    Word,
+    Half,
+    Byte,
 }
 
 impl Width {

@@ -5,6 +5,6 @@ use Prim.Native.Nat.{ℕ, _+_, _*_}
 abbrev pub numbered : ℕ → ℕ → ℕ → ℕ
 numbered major minor patch = major * 65536 + minor * 256 + patch
 
--- 1.1.0
+-- 2.0.0
 abbrev pub version : ℕ
-version = numbered 1 1 0
+version = numbered 2 0 0

@@ -24,7 +24,7 @@ replied r memory = outcome (r .answer) (system (r .machine) memory)
 -- a memory record not wholly inside is refused with 5
 abbrev pub storeAnswered : Stored → ℕ → Answer
 storeAnswered store.Done address = answer.Done 0
-storeAnswered store.Outside address = answer.Fault address
+storeAnswered store.Outside address = answer.Outside address
 
 -- 8 bytes of memory
 abbrev pub storing : System → ℕ → ℕ → Outcome Answer System

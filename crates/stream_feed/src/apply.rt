@@ -15,7 +15,7 @@ fn store_answered(stored: Stored, address: u64) -> Answer
 {
     match stored {
         Stored::Done => Answer::Done(0),
-        Stored::Outside => Answer::Fault(address),
+        Stored::Outside => Answer::Outside(address),
     }
 }
 

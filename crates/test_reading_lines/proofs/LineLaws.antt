@@ -17,7 +17,7 @@ use Rattle.test_reading_lines.specs.declared.line.Expected.the-variants.
 use Rattle.test_reading_lines.specs.Words.{ascii, part, wordsOf, wordAt, FirstWord}
 use Rattle.test_reading_lines.specs.Number.{upTo}
 use Rattle.test_reading_lines.specs.Calls.{Form, forms, largest, limitsOf, asLimits}
-use Rattle.test_reading_lines.specs.Line.{argumentOf, pairOf, expectedOf, wholeOf, callWith, Read}
+use Rattle.test_reading_lines.specs.Line.{argumentOf, largestAnswer, pairOf, expectedOf, wholeOf, callWith, Read}
 use Rattle.test_reading_lines.proofs.WordLaws.{word-length}
 use Rattle.test_reading_lines.proofs.PlaceLaws.{tested}
 
@@ -91,7 +91,7 @@ chosen t x y z e = record { yes = λ h. rw h at e; no = λ h. rw h at e }
 module _ (line : List ℕ) (from : ℕ) (w : Word) (a v : Part) (z : Word) (b : Bool) (first : FirstWord line from w) where
   pub something :
       (w .start ≡ w .end → ⊥) →
-      Read line (upTo 8 (wordAt 0 (words-from line (w .end)))) (drop 1 (words-from line (w .end))) a →
+      Read line (upTo largestAnswer (wordAt 0 (words-from line (w .end)))) (drop 1 (words-from line (w .end))) a →
       Read line (upTo (largest 64) (wordAt 0 (words-from line (a .end)))) (drop 1 (words-from line (a .end))) v →
       FirstWord line (v .end) z →
       (let word = part (w .start) (w .end) line in (b ≡ true → word ≡ ascii "=") × (word ≡ ascii "=" → b ≡ true)) →

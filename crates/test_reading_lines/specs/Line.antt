@@ -24,6 +24,10 @@ withoutCall kind = record { kind = kind; call = noCall; first = 0; second = 0; a
 unfoldable pub argumentOf : List ℕ → ℕ → List (List ℕ) → Number
 argumentOf limits i words = cond (ltb i (length limits)) (upTo (getD limits i 0) (wordAt i words)) (Value 0)
 
+-- the last number in the table of answers
+abbrev pub largestAnswer : ℕ
+largestAnswer = 9
+
 -- an answer and a value that could both be read
 abbrev pub pairOf : Number → Number → Expected
 pairOf (Value answer) (Value value) = Pair answer value
@@ -36,7 +40,7 @@ expectedOf words =
     cond (missing (wordAt 0 words))
     (Pair 0 0)
     (cond (same (wordAt 0 words) (ascii "=") && missing (wordAt 3 words))
-    (pairOf (upTo 8 (wordAt 1 words)) (upTo (largest 64) (wordAt 2 words)))
+    (pairOf (upTo largestAnswer (wordAt 1 words)) (upTo (largest 64) (wordAt 2 words)))
     NoPair)
 
 -- a line of four parts that could all be read

@@ -13,6 +13,9 @@ use crate::number::up_to;
 use crate::words::next_word;
 use check::same;
 
+// The last number in the table of answers.
+const LARGEST_ANSWER: u64 = 9;
+
 pub enum Kind {
     // The name of a reading.
     Name,
@@ -103,7 +106,7 @@ fn expected_of(line: &[u8], from: usize) -> Expected
     if start == end {
         return Expected::Pair(0, 0);
     }
-    let answer = next_number(line, end, 8);
+    let answer = next_number(line, end, LARGEST_ANSWER);
     let value = next_number(line, answer.end, u64::MAX);
     let rest = next_word(line, value.end);
     if !(same(&line[start..end], b"=") & (rest.start == rest.end)) {

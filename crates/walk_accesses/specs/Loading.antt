@@ -16,7 +16,9 @@ use Rattle.walk_operands.specs.Place.{registerAt}
 use Rattle.walk_pausable.specs.Outcome.{Outcome}
 use Rattle.walk_accesses.specs.declared.loading.LoadPlan.{LoadPlan}
 use Rattle.walk_operations.specs.Context.{Context}
-use Rattle.walk_transfers.specs.Transfer.{Transferred, moved, outside, transferUnit}
+use Rattle.walk_operations.specs.declared.position.Fault.the-variants as fault
+use Rattle.walk_transfers.specs.Transfer.{Transferred, moved, refused, transferUnit}
+use Rattle.walk_accesses.specs.Alignment.{whereAligned}
 
 -- The address of position i is (register + immediate + i × bytes of the access) when the address register is scalar,
 -- and (register at i + immediate) when it's a vector, both modulo 2^64.
@@ -43,13 +45,14 @@ loadValue memory address width signed = widened signed width (loaded memory addr
 abbrev pub loadedTo : LoadPlan → Context → ℕ → ℕ → Loaded → Transferred
 loadedTo p c address j (Value value) =
     moved (written (c .registers) (registerAt (p .sides .destination .place) j) value) (c .memory)
-loadedTo p c address j Outside = outside address
+loadedTo p c address j Outside = refused fault.Outside address
 
 -- the source side is the address
 unfoldable pub loadElement : LoadPlan → Context → ℕ → ℕ → Transferred
 loadElement p c i j =
     let address = addressAt (p .sides .source .place) (p .offset) (p .width) (c .registers) i in
-    loadedTo p c address j (loadValue (c .memory) address (p .width) (p .signed))
+    whereAligned address (bytesOf (p .width))
+    (loadedTo p c address j (loadValue (c .memory) address (p .width) (p .signed)))
 
 unfoldable pub loadUnit : LoadPlan → Context → Outcome Answer Context
 loadUnit p c = transferUnit (p .sides) 4 (loadElement p) c

@@ -11,18 +11,21 @@ use Rattle.walk_pausable.specs.Outcome.{Outcome}
 use Rattle.walk_accesses.specs.declared.storing.StorePlan.{StorePlan}
 use Rattle.walk_operations.specs.Context.{Context}
 use Rattle.walk_accesses.specs.Loading.{addressAt}
-use Rattle.walk_transfers.specs.Transfer.{Transferred, moved, outside, transferUnit}
+use Rattle.walk_operations.specs.declared.position.Fault.the-variants as fault
+use Rattle.walk_transfers.specs.Transfer.{Transferred, moved, refused, transferUnit}
+use Rattle.walk_accesses.specs.Alignment.{whereAligned}
 
 abbrev pub storedTo : StorePlan → Context → ℕ → ℕ → Stored → Transferred
 storedTo p c address value Done = moved (c .registers) (stored (c .memory) address (bytesOf (p .width)) value)
-storedTo p c address value Outside = outside address
+storedTo p c address value Outside = refused fault.Outside address
 
 -- the destination side is the address
 unfoldable pub storeElement : StorePlan → Context → ℕ → ℕ → Transferred
 storeElement p c i j =
     let address = addressAt (p .sides .destination .place) (p .offset) (p .width) (c .registers) j in
     let value = getD (c .registers) (registerAt (p .sides .source .place) i) 0 in
-    storedTo p c address value (storeAnswer (c .memory) address (bytesOf (p .width)))
+    whereAligned address (bytesOf (p .width))
+    (storedTo p c address value (storeAnswer (c .memory) address (bytesOf (p .width))))
 
 unfoldable pub storeUnit : StorePlan → Context → Outcome Answer Context
 storeUnit p c = transferUnit (p .sides) 4 (storeElement p) c

@@ -6,6 +6,7 @@ ghost use Rattle.walk_pausable.specs.Walk.{walk};
 ghost use Rattle.walk_operations.specs.Context.{context, outcomeOf, pausing};
 ghost use Rattle.walk_accesses.specs.Loading.{addressAt, loadValue, loadUnit};
 ghost use Rattle.walk_transfers.specs.SidesReady.{SidesReady, Within};
+use crate::alignment::aligned;
 use answers::Answer;
 use memory::load::Loaded;
 use memory::load::load;
@@ -14,6 +15,7 @@ use registers::write_within;
 use scalar::signed::sign_extend;
 use scalar::width::Width;
 use walk_operands::place::Place;
+use walk_operations::position::Fault;
 use walk_operations::position::Position;
 use walk_operations::position::Ran;
 use walk_pairs::Pair;
@@ -26,7 +28,7 @@ pub struct LoadPlan {
     pub signed: bool,
 }
 
-// The address of a position.
+// The address of a position. The kind is told first, so that each has its own work alone.
 pub(crate) fn address_at(
     place: Place,
     offset: u64,
@@ -37,11 +39,12 @@ pub(crate) fn address_at(
     requires { ⌜ (registerAt place i < 128) × (i < 64) ⌝ }
     ensures { λ r. ⌜ r ≡ addressAt place offset width (now (registers .entry)) i ⌝ }
 {
-    let base = std::num::wrapping_add_u64(registers[place.at(i)], offset);
     if place.vector {
-        return base;
+        return std::num::wrapping_add_u64(registers[place.at(i)], offset);
     }
-    std::num::wrapping_add_u64(base, i as u64 * width.bytes())
+    let register = place.register;
+    let distance = std::num::wrapping_add_u64(offset, i as u64 * width.bytes());
+    std::num::wrapping_add_u64(registers[register], distance)
 }
 
 // The number of the bytes at an address, as 64 bits.
@@ -59,7 +62,8 @@ fn load_value_as(memory: &[u8], address: u64, width: Width, signed: bool) -> Loa
     }
 }
 
-// The same, with the width distinguished once: each case is compiled for its own width.
+// The same, with the width distinguished once: each case is compiled for its own width. A double has
+// no bits to extend.
 fn load_value(memory: &[u8], address: u64, width: Width, signed: bool) -> Loaded
     ensures { λ r. ⌜ r ≡ loadValue (now (memory .entry)) address width signed ⌝ }
 {
@@ -67,7 +71,7 @@ fn load_value(memory: &[u8], address: u64, width: Width, signed: bool) -> Loaded
         Width::Byte => load_value_as(memory, address, Width::Byte, signed),
         Width::Half => load_value_as(memory, address, Width::Half, signed),
         Width::Word => load_value_as(memory, address, Width::Word, signed),
-        Width::Double => load_value_as(memory, address, Width::Double, signed),
+        Width::Double => load_value_as(memory, address, Width::Double, false),
     }
 }
 
@@ -86,13 +90,16 @@ impl LoadPlan {
             Pair::Found(i, j) => {
                 let width = self.width;
                 let address = address_at(sides.source.place, self.offset, width, registers, i);
+                if !aligned(address, width) {
+                    return position.faulted(Fault::Misaligned, address, i, j);
+                }
                 match load_value(memory, address, width, self.signed) {
                     Loaded::Value(value) => {
                         let to = sides.destination.place.at(j);
                         write_within(registers, to, value);
                         sides.after(position, 4, i, j)
                     }
-                    Loaded::Outside => position.faulted(address, i, j),
+                    Loaded::Outside => position.faulted(Fault::Outside, address, i, j),
                 }
             }
         }

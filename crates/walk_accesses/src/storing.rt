@@ -6,12 +6,14 @@ ghost use Rattle.walk_pausable.specs.Walk.{walk};
 ghost use Rattle.walk_operations.specs.Context.{context, outcomeOf, pausing};
 ghost use Rattle.walk_transfers.specs.SidesReady.{SidesReady, Within};
 ghost use Rattle.walk_accesses.specs.Storing.{storeUnit};
+use crate::alignment::aligned;
 use crate::loading::address_at;
 use answers::Answer;
 use memory::store::Stored;
 use memory::store::store;
 use registers::REGISTERS;
 use scalar::width::Width;
+use walk_operations::position::Fault;
 use walk_operations::position::Position;
 use walk_operations::position::Ran;
 use walk_pairs::Pair;
@@ -51,10 +53,14 @@ impl StorePlan {
             Pair::Found(i, j) => {
                 let width = self.width;
                 let address = address_at(sides.destination.place, self.offset, width, registers, j);
+                // Before the test: two instructions less on RV64.
                 let value = registers[sides.source.place.at(i)];
+                if !aligned(address, width) {
+                    return position.faulted(Fault::Misaligned, address, i, j);
+                }
                 match put(memory, address, width, value) {
                     Stored::Done => sides.after(position, 4, i, j),
-                    Stored::Outside => position.faulted(address, i, j),
+                    Stored::Outside => position.faulted(Fault::Outside, address, i, j),
                 }
             }
         }

@@ -4,9 +4,11 @@ use mathlib.Core.Bool.{true}
 use mathlib.Core.List.{List}
 use mathlib.Core.Path.{_≡_, refl}
 use Rattle.answers.specs.declared.Answer.{Answer}
-use Rattle.answers.specs.declared.Answer.the-variants.{Done, Paused, Fault}
+use Rattle.answers.specs.declared.Answer.the-variants.{Done, Paused, Misaligned, Outside}
 use Rattle.answers.specs.Answer.{pauses}
 use Rattle.walk_pausable.specs.Outcome.{Pausing, Outcome, outcome}
+use Rattle.walk_operations.specs.declared.position.Fault.{Fault}
+use Rattle.walk_operations.specs.declared.position.Fault.the-variants as fault
 use Rattle.walk_operations.specs.declared.position.Position.{Position}
 use Rattle.walk_operations.specs.declared.position.Ran.{Ran}
 
@@ -49,6 +51,12 @@ ended bytes p =
 abbrev pub onward : Position → ℕ → ℕ → Ran
 onward p source destination = record { answer = Paused; position = atOffsets p source destination }
 
--- a fault leaves the offsets at the pair
-abbrev pub faulted : ℕ → Position → ℕ → ℕ → Ran
-faulted address p source destination = record { answer = Fault address; position = atOffsets p source destination }
+-- both memory faults give the address of the access
+abbrev pub faultAnswer : Fault → ℕ → Answer
+faultAnswer fault.Misaligned address = Misaligned address
+faultAnswer fault.Outside address = Outside address
+
+-- they leave the offsets at the pair
+abbrev pub faulted : Fault → ℕ → Position → ℕ → ℕ → Ran
+faulted fault address p source destination =
+    record { answer = faultAnswer fault address; position = atOffsets p source destination }

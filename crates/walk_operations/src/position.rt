@@ -1,6 +1,6 @@
 // Where an instruction stands, and how a walk leaves it.
 ghost use mathlib.Core.Path.{_≡_};
-ghost use Rattle.walk_operations.specs.Context.{onward, ended, faulted};
+ghost use Rattle.walk_operations.specs.Context.{faultAnswer, onward, ended, faulted};
 use answers::Answer;
 
 pub struct Position {
@@ -13,6 +13,24 @@ pub struct Position {
 pub struct Ran {
     pub answer: Answer,
     pub position: Position,
+}
+
+// Why an access is refused.
+pub enum Fault {
+    Misaligned,
+    Outside,
+}
+
+impl Fault {
+    // What a run says of it.
+    pub fn answer(self, address: u64) -> Answer
+        ensures { λ r. ⌜ r ≡ faultAnswer self address ⌝ }
+    {
+        match self {
+            Fault::Misaligned => Answer::Misaligned(address),
+            Fault::Outside => Answer::Outside(address),
+        }
+    }
 }
 
 impl Position {
@@ -28,12 +46,12 @@ impl Position {
         }
     }
 
-    // A fault at a pair of positions: the program counter stays where it is.
-    pub fn faulted(self, address: u64, source: usize, destination: usize) -> Ran
-        ensures { λ r. ⌜ r ≡ faulted address self source destination ⌝ }
+    // A memory fault at a pair of positions: the program counter stays where it is.
+    pub fn faulted(self, fault: Fault, address: u64, source: usize, destination: usize) -> Ran
+        ensures { λ r. ⌜ r ≡ faulted fault address self source destination ⌝ }
     {
         Ran {
-            answer: Answer::Fault(address),
+            answer: fault.answer(address),
             position: Position {
                 pc: self.pc,
                 source,

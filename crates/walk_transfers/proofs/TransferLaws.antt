@@ -14,11 +14,12 @@ use Rattle.walk_pairs.specs.declared.Pair.{Pair}
 use Rattle.walk_pairs.specs.declared.Pair.the-variants.{Found, End}
 use Rattle.walk_pairs.specs.Side.{next, past}
 use Rattle.walk_pairs.proofs.Found.{pair-in, start-in, next-in}
+use Rattle.walk_operations.specs.declared.position.Fault.{Fault}
 use Rattle.walk_operations.specs.declared.position.Position.{Position}
 use Rattle.walk_transfers.specs.declared.sides.Sides.{Sides}
 use Rattle.walk_operations.specs.Context.{Context, outcomeOf, ended, faulted}
 use Rattle.walk_transfers.specs.SidesReady.{SidesReady, Within}
-use Rattle.walk_transfers.specs.Transfer.{Transferred, moved, outside}
+use Rattle.walk_transfers.specs.Transfer.{Transferred, moved, refused}
 use Rattle.walk_transfers.specs.Transfer.{pairOf, afterPair, afterTransfer, atPair, transferUnit}
 
 -- what is known of the pair that a unit works at
@@ -74,11 +75,12 @@ module _ (s : Sides) (bytes : ℕ) (transfer : Context → ℕ → ℕ → Trans
       unfolding transferUnit atPair afterTransfer
       unit-moved registers memory e = rw (sym said ∙ found, e)
 
-      pub unit-outside :
-          (address : ℕ) → transfer c i j ≡ outside address →
-          outcomeOf (faulted address (c .position) i j) (c .registers) (c .memory) ≡ transferUnit s bytes transfer c
+      pub unit-refused :
+          (fault : Fault) (address : ℕ) → transfer c i j ≡ refused fault address →
+          outcomeOf (faulted fault address (c .position) i j) (c .registers) (c .memory)
+          ≡ transferUnit s bytes transfer c
       unfolding transferUnit atPair afterTransfer
-      unit-outside address e = rw (sym said ∙ found, e)
+      unit-refused fault address e = rw (sym said ∙ found, e)
 
   -- a unit leaves both offsets below VL, whatever it answers
   pub unit-within :
@@ -95,7 +97,7 @@ module _ (s : Sides) (bytes : ℕ) (transfer : Context → ℕ → ℕ → Trans
           Within (s .vl) (afterTransfer s bytes c i j t .state .position)
       at i j h k (moved registers memory) =
           unfold afterTransfer in after-within s bytes (c .position) i j least
-      at i j h k (outside address) = unfold afterTransfer in record { source = h; destination = k }
+      at i j h k (refused fault address) = unfold afterTransfer in record { source = h; destination = k }
 
       by : (p : Pair) → pairOf s (c .position) ≡ p → Within (s .vl) (atPair s bytes (transfer c) c p .state .position)
       by End e = unfold atPair in record { source = least; destination = least }

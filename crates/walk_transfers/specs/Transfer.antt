@@ -8,15 +8,16 @@ use Rattle.walk_pairs.specs.declared.Pair.the-variants.{Found, End}
 use Rattle.walk_pairs.specs.Side.{start, next, past}
 use Rattle.walk_pairs.specs.Pair.{pairFrom}
 use Rattle.walk_pausable.specs.Outcome.{Outcome}
+use Rattle.walk_operations.specs.declared.position.Fault.{Fault}
 use Rattle.walk_operations.specs.declared.position.Position.{Position}
 use Rattle.walk_operations.specs.declared.position.Ran.{Ran}
 use Rattle.walk_transfers.specs.declared.sides.Sides.{Sides}
 use Rattle.walk_operations.specs.Context.{Context, outcomeOf, ended, onward, faulted}
 
--- the registers and the memory that an element leaves, or the address of an access that doesn't lie wholly in memory
+-- the registers and the memory that an element leaves, or why its access is refused, with the address
 pub data Transferred : Type 0 where
   moved : List ℕ → List ℕ → Transferred
-  outside : ℕ → Transferred
+  refused : Fault → ℕ → Transferred
 
 -- the pair that a unit works at
 unfoldable pub pairOf : Sides → Position → Pair
@@ -35,7 +36,8 @@ afterPair s bytes position i j =
 
 unfoldable pub afterTransfer : Sides → ℕ → Context → ℕ → ℕ → Transferred → Outcome Answer Context
 afterTransfer s bytes c i j (moved registers memory) = outcomeOf (afterPair s bytes (c .position) i j) registers memory
-afterTransfer s bytes c i j (outside address) = outcomeOf (faulted address (c .position) i j) (c .registers) (c .memory)
+afterTransfer s bytes c i j (refused fault address) =
+    outcomeOf (faulted fault address (c .position) i j) (c .registers) (c .memory)
 
 -- if either side reaches VL the instruction ends with nothing done
 unfoldable pub atPair : Sides → ℕ → (ℕ → ℕ → Transferred) → Context → Pair → Outcome Answer Context

@@ -14,12 +14,21 @@ pub mod answer {
     pub const OUT_OF_SHAPE: u32 = 6;
     pub const BAD_VALUE: u32 = 7;
     pub const NO_SUCH: u32 = 8;
+    pub const MISALIGNED: u32 = 9;
+
+    /// How many there are.
+    pub const COUNT: usize = 10;
+
+    /// Whether an access was refused; the value is its address then.
+    pub fn is_memory_fault(number: u32) -> bool {
+        matches!(number, FAULT | MISALIGNED)
+    }
 }
 
 #[derive(Clone, Copy, PartialEq, Eq, Debug)]
 pub struct Outcome {
     pub answer: u32,
-    /// The value that a setting or reading call returns, or the address of a fault.
+    /// The value that a setting or reading call returns, or the address of a memory fault.
     pub value: u64,
 }
 

@@ -1,6 +1,7 @@
 //! What the cases have reached: each call with each answer it can give, and the situations worth a test.
 
-use difftest::calls::{Call, Outcome};
+use crate::accesses;
+use difftest::calls::{answer, Call, Outcome};
 use difftest::decode::{decode, Instruction, Operation, Second};
 use difftest::machine::Machine;
 use difftest::premise;
@@ -13,13 +14,13 @@ use std::fmt::Write;
 const ROWS: [(&str, &[usize]); 28] = [
     ("run operation", &[0, 1, 3, 4, 6]),
     ("run move", &[0, 1, 3, 4, 6]),
-    ("run load", &[0, 1, 3, 4, 5, 6]),
-    ("run store", &[0, 1, 3, 4, 5, 6]),
+    ("run load", &[0, 1, 3, 4, 5, 6, 9]),
+    ("run store", &[0, 1, 3, 4, 5, 6, 9]),
     ("run unknown word", &[2, 6]),
     ("step operation", &[0, 1, 3, 4, 6]),
     ("step move", &[0, 1, 3, 4, 6]),
-    ("step load", &[0, 1, 3, 4, 5, 6]),
-    ("step store", &[0, 1, 3, 4, 5, 6]),
+    ("step load", &[0, 1, 3, 4, 5, 6, 9]),
+    ("step store", &[0, 1, 3, 4, 5, 6, 9]),
     ("step unknown word", &[2, 6]),
     ("fresh", &[0]),
     ("set VL", &[0, 6, 7]),
@@ -49,12 +50,12 @@ pub mod lists {
 }
 
 /// A situation, and whether a call was in it.
-type Seen = (&'static str, bool);
+pub type Seen = (&'static str, bool);
 
 pub struct Coverage {
     pub calls: u64,
-    pub answers: [u64; 9],
-    rows: [[u64; 9]; ROWS.len()],
+    pub answers: [u64; answer::COUNT],
+    rows: [[u64; answer::COUNT]; ROWS.len()],
     situations: BTreeMap<&'static str, u64>,
     cfg: [u64; 32],
     vl: [u64; 65],
@@ -72,12 +73,19 @@ pub struct Made<'a> {
     pub memory_changed: bool,
 }
 
+impl Made<'_> {
+    /// Registers and memory are as before.
+    pub fn kept(&self) -> bool {
+        self.after.registers == self.before.registers && !self.memory_changed
+    }
+}
+
 impl Coverage {
     pub fn new() -> Coverage {
         Coverage {
             calls: 0,
-            answers: [0; 9],
-            rows: [[0; 9]; ROWS.len()],
+            answers: [0; answer::COUNT],
+            rows: [[0; answer::COUNT]; ROWS.len()],
             situations: [lists::ONE_CALL, lists::ENDED, lists::COPY].map(|name| (name, 0)).into(),
             cfg: [0; 32],
             vl: [0; 65],
@@ -91,7 +99,7 @@ impl Coverage {
         self.calls += 1;
         self.answers[answer] += 1;
         self.rows[row(made.call)][answer] += 1;
-        if let (Some(word), 0 | 1 | 5) = (word(made.call), answer) {
+        if let (Some(word), 0 | 1 | 5 | 9) = (word(made.call), answer) {
             self.cfg[made.before.cfg as usize] += 1;
             self.vl[made.before.vl as usize] += 1;
             self.mvl[made.before.mvl as usize] += 1;
@@ -103,7 +111,10 @@ impl Coverage {
                     self.add(&operation_situations(made, &instruction));
                     self.add(&division_situations(made, &operation));
                 }
-                _ => self.add(&transfer_situations(made, &instruction)),
+                _ => {
+                    self.add(&transfer_situations(made, &instruction));
+                    self.add(&accesses::situations(made, &instruction));
+                }
             }
         }
         if let (Some(word), 2) = (word(made.call), answer) {
@@ -148,7 +159,7 @@ impl Coverage {
     /// The counts as a table.
     pub fn table(&self) -> String {
         let mut text = String::new();
-        let _ = writeln!(text, "{:22} {}", "answer", columns(&[0, 1, 2, 3, 4, 5, 6, 7, 8]));
+        let _ = writeln!(text, "{:22} {}", "answer", columns(&std::array::from_fn(|number| number as u64)));
         for ((name, _), counts) in ROWS.iter().zip(&self.rows) {
             let _ = writeln!(text, "{name:22} {}", columns(counts));
         }
@@ -159,7 +170,7 @@ impl Coverage {
     }
 }
 
-fn columns(counts: &[u64; 9]) -> String {
+fn columns(counts: &[u64; answer::COUNT]) -> String {
     counts.iter().map(|count| format!("{count:9}")).collect()
 }
 
@@ -290,16 +301,12 @@ fn transfer_situations(made: &Made, instruction: &Instruction) -> Vec<Seen> {
     let sides = sides(made.before, instruction);
     let offsets = [made.before.source, made.before.destination];
     let ran = made.after != made.before;
-    let kept = made.after.registers == made.before.registers && !made.memory_changed;
-    let fault = made.outcome.answer == 5;
     let off = |i: usize| sides[i].1 && !mask(made.before, sides[i].0).on(offsets[i]);
     vec![
         ("transfer with zeroing set", ran && sides.iter().any(|&(key, walks)| walks && mask(made.before, key).zeroing)),
         ("transfer on which both sides walk", ran && sides[0].1 && sides[1].1),
         ("transfer that skips", ran && (off(0) || off(1))),
-        ("transfer that ends with nothing done", ran && made.outcome.answer == 0 && kept),
-        ("fault after an element of the same call", fault && !kept),
-        ("fault at an address near 2^64", fault && made.outcome.value > u64::MAX - 8),
+        ("transfer that ends with nothing done", ran && made.outcome.answer == 0 && made.kept()),
     ]
 }
 

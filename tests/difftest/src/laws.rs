@@ -12,7 +12,7 @@ fn allowance(call: &Call) -> Option<u64> {
 }
 
 fn refused(number: u32) -> bool {
-    !matches!(number, answer::DONE | answer::PAUSED | answer::FAULT)
+    !matches!(number, answer::DONE | answer::PAUSED) && !answer::is_memory_fault(number)
 }
 
 /// The law that a call broke.
@@ -32,8 +32,11 @@ pub fn broken(made: &Made) -> Option<&'static str> {
     if allowance == Some(0) && changed {
         return Some("a run with allowance 0 changed something");
     }
-    if matches!(said, answer::PAUSED | answer::FAULT) && made.after.pc != made.before.pc {
+    if (said == answer::PAUSED || answer::is_memory_fault(said)) && made.after.pc != made.before.pc {
         return Some("the program counter moved before the end");
+    }
+    if said == answer::MISALIGNED && made.outcome.value % 8 == 0 {
+        return Some("an access at a multiple of 8 was misaligned");
     }
     None
 }

@@ -1,7 +1,7 @@
 //! Random machines for a word and a memory: in shape with tables that the word meets, or spoiled.
 
 use crate::random::Random;
-use crate::words::{accesses_memory, divides, is_w, keys, offset};
+use crate::words::{accesses_memory, bytes, divides, is_w, keys, offset};
 use difftest::machine::{Machine, ENTRIES, REGISTERS};
 use difftest::tables::operand;
 
@@ -65,11 +65,13 @@ fn control(random: &mut Random, machine: &mut Machine) {
 }
 
 fn registers(random: &mut Random, machine: &mut Machine, word: u32, size: usize) {
-    let addresses = if accesses_memory(word) { 85 } else { 5 };
+    let addresses = if accesses_memory(word) { 92 } else { 5 };
     let outside = random.pick(&[0, 0, 2, 10, 50]);
+    let misaligned = random.pick(&[0, 0, 0, 2, 10, 50]);
     for register in 1..REGISTERS {
         machine.registers[register] = if random.percent(addresses) {
-            address(random, size as u64, outside).wrapping_sub(offset(word))
+            let address = address(random, size as u64, outside);
+            aligned(random, address, bytes(word), misaligned).wrapping_sub(offset(word))
         } else {
             value(random)
         };
@@ -98,6 +100,19 @@ fn address(random: &mut Random, size: u64, outside: u64) -> u64 {
         2 => 0u64.wrapping_sub(random.below(9)),
         3 => 0u64.wrapping_sub(8 * random.below(16)),
         _ => random.word(),
+    }
+}
+
+/// The address aligned for an access of so many bytes, or with a chance of `misaligned` as it is, or aligned for half
+/// the bytes alone.
+fn aligned(random: &mut Random, address: u64, bytes: u64, misaligned: u64) -> u64 {
+    let aligned = address & !(bytes - 1);
+    if !random.percent(misaligned) {
+        aligned
+    } else if random.percent(50) {
+        address
+    } else {
+        aligned + bytes / 2
     }
 }
 

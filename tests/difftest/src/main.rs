@@ -1,5 +1,6 @@
 //! Random calls on the proved library and on the model, compared after each call.
 
+mod accesses;
 mod cases;
 mod coverage;
 mod dump;

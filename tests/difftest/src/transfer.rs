@@ -61,21 +61,21 @@ enum Element {
 }
 
 impl Element {
-    /// Does one element, or gives back the address of an access that doesn't lie wholly in memory.
-    fn make(&self, machine: &mut Machine, memory: &mut [u8], source: u64, destination: u64) -> Result<(), u64> {
+    /// Does one element, or gives back the refusal of its access.
+    fn make(&self, machine: &mut Machine, memory: &mut [u8], source: u64, destination: u64) -> Result<(), Outcome> {
         match self {
             Element::Move { from, to } => {
                 machine.write(to.at(destination), machine.read(from.at(source)));
             }
             Element::Load { from, signed, to } => {
                 let address = from.at(machine, source);
-                let value = memory::load(memory, address, from.bytes).ok_or(address)?;
+                let value = memory::load(memory, address, from.bytes)?;
                 machine.write(to.at(destination), extend(value, from.bytes, *signed));
             }
             Element::Store { from, to } => {
                 let address = to.at(machine, destination);
                 let value = machine.read(from.at(source));
-                memory::store(memory, address, to.bytes, value).ok_or(address)?;
+                memory::store(memory, address, to.bytes, value)?;
             }
         }
         Ok(())
@@ -133,8 +133,8 @@ pub fn walk(machine: &mut Machine, memory: &mut [u8], transfer: Transfer, allowa
             return done(machine, transfer.length);
         }
         (machine.source, machine.destination) = (source, destination);
-        if let Err(address) = transfer.element.make(machine, memory, source, destination) {
-            return Outcome { answer: answer::FAULT, value: address };
+        if let Err(fault) = transfer.element.make(machine, memory, source, destination) {
+            return fault;
         }
         let source = transfer.source.after(source);
         let destination = transfer.destination.after(destination);

@@ -80,6 +80,16 @@ fn immediate(random: &mut Random) -> u32 {
     value as u32 & 0xFFF
 }
 
+/// The immediate of a load or store: in most words divisible by 8, so that x0 is the base of aligned accesses too.
+fn access_immediate(random: &mut Random) -> u32 {
+    let any = immediate(random);
+    if random.percent(70) {
+        any & !7
+    } else {
+        any
+    }
+}
+
 fn fields(opcode: u32, funct3: u32, [rd, rs1, _]: [u32; 3], upper: u32) -> u32 {
     opcode | rd << 7 | funct3 << 12 | rs1 << 15 | upper << 20
 }
@@ -109,11 +119,11 @@ fn moved(random: &mut Random, [rd, _, rs2]: [u32; 3]) -> u32 {
 }
 
 fn load(random: &mut Random, names: [u32; 3]) -> u32 {
-    fields(LOAD, random.below(7) as u32, names, immediate(random))
+    fields(LOAD, random.below(7) as u32, names, access_immediate(random))
 }
 
 fn store(random: &mut Random, [_, rs1, rs2]: [u32; 3]) -> u32 {
-    let immediate = immediate(random);
+    let immediate = access_immediate(random);
     let upper = (immediate >> 5) << 5 | rs2;
     fields(STORE, random.below(4) as u32, [immediate & 31, rs1, 0], upper)
 }
@@ -165,6 +175,11 @@ pub fn offset(word: u32) -> u64 {
 
 pub fn accesses_memory(word: u32) -> bool {
     matches!(word & 0x7F, LOAD | STORE)
+}
+
+/// The bytes of an access, which addresses are aligned for.
+pub fn bytes(word: u32) -> u64 {
+    1 << (word >> 12 & 3)
 }
 
 /// Whether the word is a W form on two registers.
