@@ -8,7 +8,8 @@
 #define MEMORY_SIZE 1024
 #define FIRST_ADDRESS 16 /* of a load or store: aligned for all */
 
-/* Key 5 is the vector at 64, key 6 the vector at 0; x7 stays a scalar, and loads and stores are 8(x7). */
+/* Key 5 is the vector at 64, key 6 the vector at 0; x7 stays a scalar, and loads and stores are 8(x7). The mask is x3,
+   which has every second position on. */
 static const struct bench {
     const char *name, *title;
     uint32_t word;
@@ -16,7 +17,7 @@ static const struct bench {
     uint16_t allowance;
 } cases[] = {
     { "ADD", "ADD", 0x007302b3, 0, 65535 },
-    { "masked", "ADD, masked, zeroing", 0x007302b3, 0x2d06, 65535 }, /* mask x3 */
+    { "masked", "ADD, masked, zeroing", 0x007302b3, 0x2d06, 65535 },
     { "MV", "C.MV", 0x829a, 0, 65535 },
     { "LB", "LB", 0x00838283, 0, 65535 },
     { "LD", "LD", 0x0083b283, 0, 65535 },
@@ -24,6 +25,10 @@ static const struct bench {
     { "slices", "ADD, slices of 4", 0x007302b3, 0, 4 }, /* four elements a call */
     { "MUL", "MUL", 0x027302b3, 0, 65535 },
     { "MULHU", "MULHU", 0x027332b3, 0, 65535 },
+    { "MV-masked", "C.MV, masked", 0x829a, 0x2906, 65535 },
+    { "MV-zeroing", "C.MV, masked, zeroing", 0x829a, 0x2d06, 65535 },
+    { "LD-masked", "LD, masked", 0x0083b283, 0x2906, 65535 },
+    { "LD-zeroing", "LD, masked, zeroing", 0x0083b283, 0x2d06, 65535 },
 };
 
 #define CASES (sizeof cases / sizeof *cases)
@@ -38,6 +43,8 @@ static inline void start_lent(struct simplev_machine *m, const struct bench *b, 
     m->predicate_table[0] = b->predicate;
     m->registers[3] = 0x5555555555555555;
     m->registers[7] = FIRST_ADDRESS - 8;
+    for (unsigned i = 64; i < SIMPLEV_REGISTERS; i++)
+        m->registers[i] = ~(uint64_t)i; /* so that an element that is off shows whether it became 0 */
 }
 
 /* The same state as the other handlers have it. */

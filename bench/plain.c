@@ -1,6 +1,9 @@
 #include "plain.h"
 #include <string.h>
 
+/* The loops of a move, load and store are compiled twice, so that one without zeroing has no test for it. */
+#define INLINE static inline __attribute__((always_inline))
+
 struct operand {
     unsigned r;
     int vector;
@@ -35,10 +38,13 @@ static struct operand name(const struct machine *m, unsigned key)
     return o;
 }
 
-static struct mask mask_of(const struct machine *m, unsigned key)
+/* All on where it isn't looked at: of a side that doesn't walk. */
+static struct mask mask_of(const struct machine *m, unsigned key, int looked_at)
 {
     unsigned first, end;
     struct mask k = { ~0ull, 0 };
+    if (!looked_at)
+        return k;
     enabled(m->cfg, &first, &end);
     for (unsigned i = first; i < end; i++) {
         unsigned e = m->predicate_table[i];
@@ -134,21 +140,21 @@ static int ended(struct machine *m, unsigned bytes)
 }
 
 /* Stands at a pair of positions, which comes next or has failed. */
-static int stopped(struct machine *m, unsigned source, unsigned destination, int answer)
+static int stopped(struct machine *m, size_t source, size_t destination, int answer)
 {
-    m->source = source;
-    m->destination = destination;
+    m->source = (uint32_t)source;
+    m->destination = (uint32_t)destination;
     return answer;
 }
 
-static int operation(struct machine *m, uint32_t word, uint16_t allowance)
+static int operation(struct machine *m, uint32_t word, unsigned allowance)
 {
     int immediate = !(word >> 5 & 1);
     unsigned f = word >> 12 & 7, alt = (word >> 30 & 1) && (!immediate || f == 5);
     unsigned multiply = !immediate && (word >> 25 & 1);
     unsigned op = multiply << 5 | (word >> 3 & 1) << 4 | alt << 3 | f;
     struct operand d = name(m, word >> 7 & 31), a = name(m, word >> 15 & 31), b = { 0, 0 };
-    struct mask k = mask_of(m, word >> 7 & 31);
+    struct mask k = mask_of(m, word >> 7 & 31, 1);
     uint64_t value = (uint64_t)(int64_t)((int32_t)word >> 20);
     if (!immediate)
         b = name(m, word >> 20 & 31);
@@ -177,7 +183,48 @@ static int operation(struct machine *m, uint32_t word, uint16_t allowance)
     return stopped(m, i, i, 1);
 }
 
-static uint64_t fetch(unsigned f, const uint8_t *from)
+/* The two sides of a move, load or store. An address walks also where it isn't a vector; a side that doesn't walk
+   stays at position 0. */
+struct sides {
+    struct operand from, to;
+    struct mask from_mask, to_mask;
+};
+
+INLINE struct sides sides_of(const struct machine *m, unsigned from, unsigned to, int from_walks, int to_walks)
+{
+    struct sides s;
+    s.to = name(m, to);
+    s.from = name(m, from);
+    s.to_mask = mask_of(m, to, to_walks || s.to.vector);
+    s.from_mask = mask_of(m, from, from_walks || s.from.vector);
+    return s;
+}
+
+INLINE int past_registers(const struct machine *m, struct sides s)
+{
+    return at(s.to, m->vl - 1) > 127 || at(s.from, m->vl - 1) > 127;
+}
+
+INLINE int has_zeroing(struct sides s)
+{
+    return s.from_mask.zeroing || s.to_mask.zeroing;
+}
+
+/* Goes on to the next position that is on, or off with zeroing; 0 where there is none. */
+INLINE int next(struct mask k, size_t *i, size_t vl, int zeroing)
+{
+    while (!(k.on >> *i & 1) && !(zeroing && k.zeroing))
+        if (++*i == vl)
+            return 0;
+    return 1;
+}
+
+INLINE int both_on(struct sides s, size_t i, size_t j)
+{
+    return s.from_mask.on >> i & s.to_mask.on >> j & 1;
+}
+
+INLINE uint64_t fetch(unsigned f, const uint8_t *from)
 {
     int8_t b;
     int16_t h;
@@ -191,42 +238,47 @@ static uint64_t fetch(unsigned f, const uint8_t *from)
     }
 }
 
-static int load(struct machine *m, uint32_t word, uint16_t allowance, const uint8_t *memory, size_t size)
+INLINE int load_elements(struct machine *m, struct sides s, uint32_t word, unsigned allowance, const uint8_t *memory,
+                         size_t size, int zeroing)
 {
     unsigned f = word >> 12 & 7;
     size_t bytes = (size_t)1 << (f & 3);
-    struct operand d = name(m, word >> 7 & 31), a = name(m, word >> 15 & 31);
-    struct mask kd = mask_of(m, word >> 7 & 31), ka = mask_of(m, word >> 15 & 31);
     uint64_t offset = (uint64_t)(int64_t)((int32_t)word >> 20);
-    if (at(d, m->vl - 1) > 127 || at(a, m->vl - 1) > 127)
-        return 3;
-    uint64_t *x = m->registers, stride = a.vector ? 0 : bytes;
-    unsigned vl = m->vl, i = m->source, j = d.vector ? m->destination : 0;
-    if (!allowance)
-        return 1;
+    uint64_t *x = m->registers, stride = s.from.vector ? 0 : bytes;
+    size_t vl = m->vl, i = m->source, j = s.to.vector ? m->destination : 0;
     do {
-        while (i < vl && !(ka.on >> i & 1))
-            i++;
-        while (d.vector && j < vl && !(kd.on >> j & 1))
-            j++;
-        if (i == vl || (d.vector && j == vl))
+        if (!next(s.from_mask, &i, vl, zeroing) || !next(s.to_mask, &j, vl, zeroing))
             return ended(m, 4);
-        uint64_t address = x[at(a, i)] + offset + i * stride;
-        if (address & (bytes - 1))
-            return stopped(m, i, j, 9);
-        if (size < bytes || address > size - bytes)
-            return stopped(m, i, j, 5);
-        uint64_t v = fetch(f, memory + address);
-        if (at(d, j))
-            x[at(d, j)] = v;
+        uint64_t v = 0;
+        if (!zeroing || both_on(s, i, j)) {
+            uint64_t address = x[s.from.r + (s.from.vector ? i : 0)] + offset + i * stride;
+            if (address & (bytes - 1))
+                return stopped(m, i, j, 9);
+            if (size < bytes || address > size - bytes)
+                return stopped(m, i, j, 5);
+            v = fetch(f, memory + address);
+        }
+        if (s.to.r + j)
+            x[s.to.r + j] = v;
         i++;
-        if (!d.vector || i == vl || ++j == vl)
+        if (!s.to.vector || i == vl || ++j == vl)
             return ended(m, 4);
     } while (--allowance);
     return stopped(m, i, j, 1);
 }
 
-static void put(unsigned f, uint8_t *to, uint64_t v)
+static int load(struct machine *m, uint32_t word, unsigned allowance, const uint8_t *memory, size_t size)
+{
+    struct sides s = sides_of(m, word >> 15 & 31, word >> 7 & 31, 1, 0);
+    if (past_registers(m, s))
+        return 3;
+    if (!allowance)
+        return 1;
+    return has_zeroing(s) ? load_elements(m, s, word, allowance, memory, size, 1)
+                          : load_elements(m, s, word, allowance, memory, size, 0);
+}
+
+INLINE void put(unsigned f, uint8_t *to, uint64_t v)
 {
     switch (f & 3) {
     case 0: *to = (uint8_t)v; break;
@@ -236,63 +288,65 @@ static void put(unsigned f, uint8_t *to, uint64_t v)
     }
 }
 
-static int store(struct machine *m, uint32_t word, uint16_t allowance, uint8_t *memory, size_t size)
+INLINE int store_elements(struct machine *m, struct sides s, uint32_t word, unsigned allowance, uint8_t *memory,
+                          size_t size, int zeroing)
 {
     unsigned f = word >> 12 & 7;
     size_t bytes = (size_t)1 << (f & 3);
-    struct operand d = name(m, word >> 20 & 31), a = name(m, word >> 15 & 31);
-    struct mask kd = mask_of(m, word >> 20 & 31), ka = mask_of(m, word >> 15 & 31);
     uint64_t offset = (uint64_t)(int64_t)((int32_t)word >> 25) << 5 | (word >> 7 & 31);
-    if (at(d, m->vl - 1) > 127 || at(a, m->vl - 1) > 127)
-        return 3;
-    uint64_t *x = m->registers, stride = a.vector ? 0 : bytes;
-    unsigned vl = m->vl, i = d.vector ? m->source : 0, j = m->destination;
-    if (!allowance)
-        return 1;
+    uint64_t *x = m->registers, stride = s.to.vector ? 0 : bytes;
+    size_t vl = m->vl, i = s.from.vector ? m->source : 0, j = m->destination;
     do {
-        while (d.vector && i < vl && !(kd.on >> i & 1))
-            i++;
-        while (j < vl && !(ka.on >> j & 1))
-            j++;
-        if (j == vl || (d.vector && i == vl))
+        if (!next(s.from_mask, &i, vl, zeroing) || !next(s.to_mask, &j, vl, zeroing))
             return ended(m, 4);
-        uint64_t address = x[at(a, j)] + offset + j * stride;
+        uint64_t address = x[s.to.r + (s.to.vector ? j : 0)] + offset + j * stride;
         if (address & (bytes - 1))
             return stopped(m, i, j, 9);
         if (size < bytes || address > size - bytes)
             return stopped(m, i, j, 5);
-        put(f, memory + address, x[at(d, i)]);
+        put(f, memory + address, !zeroing || both_on(s, i, j) ? x[s.from.r + i] : 0);
         j++;
-        if (j == vl || (d.vector && ++i == vl) || (!d.vector && !a.vector))
+        if (j == vl || (s.from.vector && ++i == vl) || (!s.from.vector && !s.to.vector))
             return ended(m, 4);
     } while (--allowance);
     return stopped(m, i, j, 1);
 }
 
-static int move(struct machine *m, uint32_t word, uint16_t allowance)
+static int store(struct machine *m, uint32_t word, unsigned allowance, uint8_t *memory, size_t size)
 {
-    struct operand d = name(m, word >> 7 & 31), a = name(m, word >> 2 & 31);
-    struct mask kd = mask_of(m, word >> 7 & 31), ka = mask_of(m, word >> 2 & 31);
-    if (at(d, m->vl - 1) > 127 || at(a, m->vl - 1) > 127)
+    struct sides s = sides_of(m, word >> 20 & 31, word >> 15 & 31, 0, 1);
+    if (past_registers(m, s))
         return 3;
-    uint64_t *x = m->registers;
-    unsigned vl = m->vl, i = a.vector ? m->source : 0, j = d.vector ? m->destination : 0;
     if (!allowance)
         return 1;
+    return has_zeroing(s) ? store_elements(m, s, word, allowance, memory, size, 1)
+                          : store_elements(m, s, word, allowance, memory, size, 0);
+}
+
+INLINE int move_elements(struct machine *m, struct sides s, unsigned allowance, int zeroing)
+{
+    uint64_t *x = m->registers;
+    size_t vl = m->vl, i = s.from.vector ? m->source : 0, j = s.to.vector ? m->destination : 0;
     do {
-        while (a.vector && i < vl && !(ka.on >> i & 1))
-            i++;
-        while (d.vector && j < vl && !(kd.on >> j & 1))
-            j++;
-        if ((a.vector && i == vl) || (d.vector && j == vl))
+        if (!next(s.from_mask, &i, vl, zeroing) || !next(s.to_mask, &j, vl, zeroing))
             return ended(m, 2);
-        uint64_t v = x[at(a, i)];
-        if (at(d, j))
-            x[at(d, j)] = v;
-        if (!d.vector || (a.vector && ++i == vl) || ++j == vl)
+        uint64_t v = !zeroing || both_on(s, i, j) ? x[s.from.r + i] : 0;
+        if (s.to.r + j)
+            x[s.to.r + j] = v;
+        if (!s.to.vector || (s.from.vector && ++i == vl) || ++j == vl)
             return ended(m, 2);
     } while (--allowance);
     return stopped(m, i, j, 1);
+}
+
+static int move(struct machine *m, uint32_t word, unsigned allowance)
+{
+    struct sides s = sides_of(m, word >> 2 & 31, word >> 7 & 31, 0, 0);
+    if (past_registers(m, s))
+        return 3;
+    if (!allowance)
+        return 1;
+    return has_zeroing(s) ? move_elements(m, s, allowance, 1) : move_elements(m, s, allowance, 0);
 }
 
 int plain_run(struct machine *m, uint32_t word, uint16_t allowance, uint8_t *memory, size_t size)

@@ -21,21 +21,33 @@ static uint8_t ram[256]; /* what lies at BASE; on the core itself a pointer to B
 
 /* --- run_elsewhere --- */
 
-/* The registers that an operand stands for: `count` from `first` on. */
-struct operand {
-    unsigned first, count;
-};
-
-/* By the highest enabled entry with the operand's key, as the library finds it. */
-static struct operand operand_of(const struct simplev_machine *m, unsigned key)
+/* The highest enabled entry of a table that has these bits in these places, as the library finds it, or 0. */
+static unsigned entry_of(const struct simplev_machine *m, const uint16_t *table, unsigned places, unsigned bits)
 {
     const unsigned cfg = (unsigned)m->control[SIMPLEV_CFG], bank = 2 * (cfg & 7), end = bank + (2u << (cfg >> 3));
-    for (unsigned k = end < SIMPLEV_ENTRIES ? end : SIMPLEV_ENTRIES; k > bank && cfg != 31; k--) {
-        const unsigned entry = m->register_table[k - 1];
-        if ((entry & 0x80) && (entry & 31) == key)
-            return (struct operand){entry >> 8 & 127, entry & 0x8000 ? (unsigned)m->control[SIMPLEV_VL] : 1};
-    }
-    return (struct operand){key, 1};
+    for (unsigned k = end < SIMPLEV_ENTRIES ? end : SIMPLEV_ENTRIES; k > bank && cfg != 31; k--)
+        if ((table[k - 1] & places) == bits)
+            return table[k - 1];
+    return 0;
+}
+
+/* The registers that an operand stands for: `count` from `first` on. */
+struct operand {
+    unsigned key, first, count;
+    int vector;
+};
+
+static struct operand operand_of(const struct simplev_machine *m, unsigned key)
+{
+    const unsigned entry = entry_of(m, m->register_table, 0x9f, 0x80 | key);
+    const int vector = entry >> 15 != 0;
+    return (struct operand){key, entry ? entry >> 8 & 127 : key, vector ? (unsigned)m->control[SIMPLEV_VL] : 1, vector};
+}
+
+static int is_off(const struct simplev_machine *m, unsigned key, uint64_t position)
+{
+    const unsigned entry = entry_of(m, m->predicate_table, 0xf900, key << 11 | 0x100);
+    return entry && (m->registers[entry >> 1 & 127] >> position & 1) == (entry >> 9 & 1);
 }
 
 /* The operands of a load or store, and the bytes of an access. */
@@ -74,9 +86,18 @@ static uint32_t run_whole(struct simplev_machine *m, const struct access *a, uin
     return answer;
 }
 
+/* Whether the store that stands at a pair of positions is one of 0. It stands at no off position but with zeroing; a
+ * scalar's mask isn't looked at, but an address walks always. */
+static int stores_0(const struct simplev_machine *m, const struct access *a)
+{
+    return is_off(m, a->address.key, m->control[SIMPLEV_DESTINATION]) ||
+           (a->value.vector && is_off(m, a->value.key, m->control[SIMPLEV_SOURCE]));
+}
+
 /* One element. Without memory a step comes to stand at the next element, gives its address as that of a memory fault,
- * and does nothing else; where there is none it ends the instruction. Then the registers of this element are known. An
- * answer of MISALIGNED is that of the access, wherever its address is. */
+ * and does nothing else; where there is none it ends the instruction, and a load of 0, which has no access, it does.
+ * Then the registers of this element are known. An answer of MISALIGNED is that of the access, wherever its address
+ * is. */
 static uint32_t step_elsewhere(struct simplev_machine *m, const struct access *a, uint32_t word, uint64_t *address)
 {
     uint32_t answer = simplev_machine_step(m, word, NULL, 0, address);
@@ -84,13 +105,14 @@ static uint32_t step_elsewhere(struct simplev_machine *m, const struct access *a
     const uint64_t at = *address - BASE;
     const unsigned holder = a->address.first + (a->address.count > 1 ? (unsigned)(a->store ? destination : source) : 0);
     const unsigned value = a->value.first + (a->value.count > 1 ? (unsigned)(a->store ? source : destination) : 0);
+    const int distance_stored = holder == value && a->store && !stores_0(m, a);
     if (answer != SIMPLEV_FAULT || at > sizeof ram - a->bytes) /* misaligned, or not in RAM, as all by register 0 */
         return answer;
     m->registers[holder] -= BASE;
     answer = simplev_machine_step(m, word, ram, sizeof ram, address);
     if (holder != value || a->store) /* else it holds what was loaded */
         m->registers[holder] += BASE;
-    if (holder == value && a->store) /* the distance was stored: the address belongs there */
+    if (distance_stored) /* the address belongs there */
         for (unsigned k = 0; k < a->bytes; k++)
             ram[at + k] = (uint8_t)(m->registers[holder] >> 8 * k);
     return answer;
@@ -135,6 +157,14 @@ static void put(uint64_t at, uint64_t value)
 {
     for (int k = 0; k < 8; k++)
         ram[at + k] = (uint8_t)(value >> 8 * k);
+}
+
+static uint64_t get(uint64_t at)
+{
+    uint64_t value = 0;
+    for (int k = 0; k < 8; k++)
+        value |= (uint64_t)ram[at + k] << 8 * k;
+    return value;
 }
 
 /* x5 is the vector of four at x40, x6 what the entry says. */
@@ -235,17 +265,41 @@ static void own_address_misaligned(void)
 /* x6 is the vector at x40, and is stored where it points to; then the second is misaligned. */
 static void stored_address(void)
 {
-    uint64_t stored = 0;
     set_up(0xa886);
     for (int k = 0; k < 4; k++)
         m.registers[40 + k] = BASE + 32 * (uint64_t)k;
     run("addresses stored where they point to", SD_X6_0_X6, 64, SIMPLEV_DONE, 0);
-    for (int k = 0; k < 8; k++)
-        stored |= (uint64_t)ram[96 + k] << 8 * k;
-    expect(stored == BASE + 96, "the address is stored, and not the distance");
+    expect(get(96) == BASE + 96, "the address is stored, and not the distance");
     m.registers[41] += 6;
     run("the second misaligned", SD_X6_0_X6, 64, SIMPLEV_MISALIGNED, BASE + 38);
     expect(m.registers[41] == BASE + 38 && ram[38] == 0, "x41 is the address, and is not stored");
+}
+
+/* Zeroing: at an off position a load accesses nothing, whatever its address is, and a store stores 0. x3 is the mask of
+ * x5 (entry 0x2d06) and then of x6 (entry 0x3506), and the second element is off. */
+static void zeroed(void)
+{
+    set_up(0xbc86);
+    m.predicate_table[0] = 0x2d06;
+    m.registers[3] = 13;
+    m.registers[41] = 9;
+    for (int k = 0; k < 4; k++)
+        m.registers[60 + k] = BASE + 16 * (uint64_t)k;
+    m.registers[61] = 1;
+    run("four addresses, the second off", LD_X5_8_X6, 64, SIMPLEV_DONE, 0);
+    expect(m.registers[40] == 0x101 && m.registers[41] == 0 && m.registers[43] == 0x107, "the second is 0");
+    set_up(0xa886);
+    m.predicate_table[0] = 0x3506;
+    m.registers[3] = 13;
+    for (int k = 0; k < 4; k++)
+        m.registers[40 + k] = BASE + 32 * (uint64_t)k;
+    run("addresses stored, the second off", SD_X6_0_X6, 64, SIMPLEV_DONE, 0);
+    expect(get(32) == 0 && get(64) == BASE + 64, "a 0 is stored for it, and for the third its address");
+    m.registers[41] += 6;
+    run("off and misaligned", SD_X6_0_X6, 64, SIMPLEV_MISALIGNED, BASE + 38);
+    m.registers[41] = BASE + sizeof ram;
+    run("off and not in RAM", SD_X6_0_X6, 64, SIMPLEV_FAULT, BASE + sizeof ram);
+    expect(m.control[SIMPLEV_SOURCE] == 1 && m.control[SIMPLEV_DESTINATION] == 1, "the offsets stand at it");
 }
 
 /* At its own address, which is not one of RAM. */
@@ -264,6 +318,7 @@ int main(void)
     own_address();
     own_address_misaligned();
     stored_address();
+    zeroed();
     by_register_0();
     return wrong;
 }

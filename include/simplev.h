@@ -40,7 +40,7 @@
  *  - Stack: at most 160 bytes, without those of memset. tools/rv64 prints it for other flags.
  *  - Time, counted over states chosen to be bad. docs/BENCHMARKS.md says how, and how to choose an allowance for an
  *    interrupt latency.
- *   allowance 0, 1, 4, 16, VL: at most 681, 1432, 1600, 2290, 5078 instructions
+ *   allowance 0, 1, 4, 16, VL: at most 674, 1507, 1666, 2302, 4848 instructions
  *
  * Memory that begins elsewhere. Addresses begin at 0: an access at address a is to memory[a]. RAM that begins at BASE,
  * 0x80000000, say, or a part of it, is lent by a pointer to its first byte and its length, and during a call the
@@ -54,8 +54,9 @@
  *  - That is right where none of these registers is register 0, one that the word may load or stores, or a mask
  *    register set for an operand. Where a load may write its own address register, or a store stores it, go element by
  *    element: a step without memory does nothing but come to the next element and give its address, as that of a memory
- *    fault. If that is MISALIGNED, it is the answer. If it is FAULT and the address is one of RAM, subtract BASE from
- *    this element's register alone, step with memory, and add BASE to it again unless it was loaded; if it was stored,
+ *    fault, or does an element of a load that is a 0 by zeroing, which has no access. If it is MISALIGNED, that is the
+ *    answer. If it is FAULT and the address is one of RAM, subtract BASE from this element's register alone, step with
+ *    memory, and add BASE to it again unless it was loaded; if it was stored, and not zero bytes instead by zeroing,
  *    store it once more. An access by register 0, which can't hold a distance, is a memory fault where no RAM lies
  *    within its reach. For an address register that is a mask register there is no way.
  *  - A pointer to address 0 with a size up to the end of RAM is not the way: NULL is no memory, and all that lies below
@@ -206,10 +207,18 @@ static inline void simplev_machine_fresh(struct simplev_machine *m)
 }
 
 /* Runs an instruction word for at most `allowance` units, on a memory of `size` bytes at addresses from 0, or none
- * where `memory` is NULL. A unit of an operation is one position, also one that its mask leaves out. A unit of a move,
- * a load or a store skips to the next pair of positions that are on, and moves one element. An access of 2, 4 or 8
- * bytes has to be at an address, modulo 2^64, that is divisible by that number; one byte may be at any. The pointer
- * `memory` itself need not be aligned.
+ * where `memory` is NULL.
+ *
+ * A unit of an operation is one position, also one that is off in its mask; with zeroing that becomes 0. A unit of a
+ * move, a load or a store is one element, from a source position to a destination position. A vector walks through its
+ * positions, and so does an address, scalar or not. A side that walks skips positions that are off, but with zeroing
+ * takes them too, and the element is then a 0: a move or a load writes 0, and the load makes no access; a store writes
+ * zero bytes of its access's width, by an access like any other. Where a side that walks reaches VL the instruction
+ * ends, also if the other has positions left to zero. A side that doesn't walk stands at position 0, and its mask
+ * doesn't count. A move or load to a scalar, and a store with both sides scalar, end after one element, a 0 too.
+ *
+ * An access of 2, 4 or 8 bytes has to be at an address, modulo 2^64, that is divisible by that number; one byte may be
+ * at any. The pointer `memory` itself need not be aligned.
  *
  *  DONE    all elements done: the program counter has gone up by 4 (2 for C.MV), and both offsets are 0.
  *  PAUSED  the elements so far are done, the program counter is where it was, and the offsets stand at the next

@@ -403,6 +403,8 @@ def random_script(draw):
     lines = [f"fresh {number(draw, size)}", "set mvl 64", f"set vl {draw.randrange(1, 12)}"]
     lines += [f"set x {i} {number(draw, random_value(draw))}" for i in draw.sample(range(1, 60), 12)]
     lines += [f"set x {i} {number(draw, random_value(draw))}" for i in range(1, 8)]
+    for name in ("reg", "pred"):
+        lines += [f"set {name} {i} {number(draw, random_entry(draw, name))}" for i in draw.sample(range(16), 4)]
     for _ in range(draw.randrange(60)):
         lines += random_lines(draw, size)
     return joined([*lines, "dump"])

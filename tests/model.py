@@ -224,24 +224,29 @@ class Machine:
             allowance -= 1
         return 1, 0
 
+    def side(self, key, walks):
+        """Whether it walks, the positions that are on, and zeroing. Masks are read once, before any element."""
+        return (walks, *self.mask(key)) if walks else (walks, lambda p: True, 0)
+
     def pairs(self, allowance, sides, single, size, element):
-        """sides: for source and destination whether it walks, and its mask; element gives None, or a fault's answer and
-        address."""
+        """sides: source and destination. element is given the pair of positions, and whether either is off and so has
+        0 moved in place of what the source holds; it gives None, or a fault's answer and address."""
         while allowance:
             places = []
-            for (walks, on), offset in zip(sides, (self.source, self.destination)):
+            for (walks, on, zeroing), offset in zip(sides, (self.source, self.destination)):
                 p = offset if walks else 0
-                while walks and p < self.vl and not on(p):
+                while p < self.vl and not on(p) and not zeroing:
                     p += 1
                 places.append(p)
-            if any(walks and p == self.vl for (walks, _), p in zip(sides, places)):
+            # a side that has run out ends it before anything is zeroed
+            if self.vl in places:
                 return self.ended(size)
-            fault = element(*places)
+            fault = element(*places, not all(on(p) for (_, on, _), p in zip(sides, places)))
             if fault is not None:
                 self.source, self.destination = places
                 return fault
-            after = [p + 1 if walks else 0 for (walks, _), p in zip(sides, places)]
-            if single or any(walks and p == self.vl for (walks, _), p in zip(sides, after)):
+            after = [p + 1 if walks else 0 for (walks, _, _), p in zip(sides, places)]
+            if single or self.vl in after:
                 return self.ended(size)
             self.source, self.destination = after
             allowance -= 1
@@ -249,11 +254,10 @@ class Machine:
 
     def move(self, keys, names, allowance, word):
         (to, to_vector, _), (real, vector, _) = names
-        # masks are read once, before any element
-        sides = [(vector, self.mask(keys[1])[0]), (to_vector, self.mask(keys[0])[0])]
+        sides = [self.side(keys[1], vector), self.side(keys[0], to_vector)]
 
-        def element(i, j):
-            self.put(to + j if to_vector else to, self.x[real + i if vector else real])
+        def element(i, j, zero):
+            self.put(to + j if to_vector else to, 0 if zero else self.x[real + i if vector else real])
         return self.pairs(allowance, sides, not to_vector, 2, element)
 
     def address(self, operand, offset, i, size):
@@ -270,14 +274,16 @@ class Machine:
         funct3 = word >> 12 & 7
         size, offset = 2 ** (funct3 & 3), sext(word >> 20, 12)
         to, to_vector, _ = names[0]
-        sides = [(1, self.mask(keys[1])[0]), (to_vector, self.mask(keys[0])[0])]
+        sides = [self.side(keys[1], 1), self.side(keys[0], to_vector)]
 
-        def element(i, j):
-            address = self.address(names[1], offset, i, size)
-            fault = self.fault(address, size)
-            if fault is not None:
-                return fault
-            value = int.from_bytes(self.memory[address:address + size], "little")
+        def element(i, j, zero):
+            value = 0
+            if not zero:
+                address = self.address(names[1], offset, i, size)
+                fault = self.fault(address, size)
+                if fault is not None:
+                    return fault
+                value = int.from_bytes(self.memory[address:address + size], "little")
             self.put(to + j if to_vector else to, value if funct3 & 4 else sext(value, 8 * size))
             return None
         return self.pairs(allowance, sides, not to_vector, 4, element)
@@ -286,14 +292,14 @@ class Machine:
         size = 2 ** (word >> 12 & 3)
         offset = sext(word >> 25 << 5 | word >> 7 & 31, 12)
         real, vector, _ = names[0]
-        sides = [(vector, self.mask(keys[0])[0]), (1, self.mask(keys[1])[0])]
+        sides = [self.side(keys[0], vector), self.side(keys[1], 1)]
 
-        def element(i, j):
+        def element(i, j, zero):
             address = self.address(names[1], offset, j, size)
             fault = self.fault(address, size)
             if fault is not None:
                 return fault
-            value = self.x[real + i if vector else real] & 2 ** (8 * size) - 1
+            value = 0 if zero else self.x[real + i if vector else real] & 2 ** (8 * size) - 1
             self.memory[address:address + size] = value.to_bytes(size, "little")
             return None
         return self.pairs(allowance, sides, not vector and not names[1][1], 4, element)

@@ -52,7 +52,7 @@ static const struct factor {
     [MASK_6] = { "mask of x6", 8, WORDS(MASKS) },
     [MASK_7] = { "mask of x7", 8, WORDS(MASKS) },
     [INVERT] = { "inverted masks", 2, WORDS("no", "yes") },
-    [ZEROING] = { "zeroing", 2, WORDS("no", "yes") },
+    [ZEROING] = { "zeroing", 4, WORDS("none", "of all masks", "of x5's mask", "of x6's mask") },
     [WIDTH] = { "width", 4, WORDS("00", "of x5 01", "of x6 01", "of x7 01") },
     [MEMORY] = { "addresses", MEMORIES, WORDS("multiples of 8", "8n+1", "8n+4", "misaligned at the last",
                                               "outside memory at the last", "without memory") },
@@ -110,6 +110,11 @@ static void place(uint16_t *table, const state s, int place, int twice, const ui
             table[(s[place] + operand) % 16] = entries[operand];
 }
 
+static unsigned zeroing_of(const state s, unsigned operand)
+{
+    return s[ZEROING] == 1 || s[ZEROING] == operand + 2;
+}
+
 static void place_entries(const state s)
 {
     static const uint16_t others[] = { 0, 0x8089, 0x8005 }, mask_others[] = { 0, 0x4900, 0x2800 };
@@ -120,7 +125,7 @@ static void place_entries(const state s)
             entries[operand] = (uint16_t)((s[KIND_5 + operand] ? 0 : 0x8000) | base << 8 | 0x80 | k |
                                           (s[WIDTH] == operand + 1 ? 0x20 : 0));
         if (s[MASK_5 + operand])
-            masks[operand] = (uint16_t)(k << 11 | s[ZEROING] << 10 | s[INVERT] << 9 | 0x100 |
+            masks[operand] = (uint16_t)(k << 11 | zeroing_of(s, operand) << 10 | s[INVERT] << 9 | 0x100 |
                                         mask_register(s, operand) << 1);
     }
     place(machine.register_table, s, PLACE, TWICE, entries, others[s[OTHERS]]);

@@ -155,6 +155,43 @@ static void misaligned(void)
     CHECK(memory[24] == 5 && m.control[SIMPLEV_SOURCE] == 1 && m.control[SIMPLEV_DESTINATION] == 3);
 }
 
+/* Zeroing: at an off position a 0 is moved; a load has no access there, a store has. The words are C.MV x5, x6, LD x5,
+ * 0(x6) and SD x5, 0(x6), where x5 is the vector at x40 and x6 the one at x50. */
+static void zeroing(void)
+{
+    const uint32_t mv = 0x829au, ld = 0x00033283u, sd = 0x00533023u;
+    uint8_t memory[16];
+    struct simplev_machine expected;
+    memset(memory, 0xff, sizeof memory);
+    simplev_machine_fresh(&m);
+    GIVES(simplev_machine_set_state_word(&m, 0x180000c3u, &v), SIMPLEV_DONE, 0); /* MVL 4, VL 4 */
+    GIVES(simplev_machine_set_register_entry(&m, 0, 0xa885, &v), SIMPLEV_DONE, 0);
+    GIVES(simplev_machine_set_register_entry(&m, 1, 0xb286, &v), SIMPLEV_DONE, 0);
+    GIVES(simplev_machine_set_predicate_entry(&m, 0, 0x2d06, &v), SIMPLEV_DONE, 0); /* mask of x5: x3, zeroing */
+    GIVES(simplev_machine_set_register(&m, 3, 5, &v), SIMPLEV_DONE, 0);
+    for (uint32_t k = 0; k < 4; k++) {
+        GIVES(simplev_machine_set_register(&m, 40 + k, 9, &v), SIMPLEV_DONE, 0);
+        GIVES(simplev_machine_set_register(&m, 50 + k, 1 + k, &v), SIMPLEV_DONE, 0);
+    }
+    GIVES(simplev_machine_run(&m, mv, 65535, NULL, 0, &v), SIMPLEV_DONE, 0);
+    CHECK(m.registers[40] == 1 && m.registers[41] == 0 && m.registers[42] == 3 && m.registers[43] == 0);
+    GIVES(simplev_machine_set_register(&m, 3, 0, &v), SIMPLEV_DONE, 0);
+    GIVES(simplev_machine_step(&m, ld, NULL, 0, &v), SIMPLEV_PAUSED, 0);
+    CHECK(m.registers[40] == 0 && m.registers[42] == 3);
+    CHECK(m.control[SIMPLEV_SOURCE] == 1 && m.control[SIMPLEV_DESTINATION] == 1);
+    GIVES(simplev_machine_run(&m, ld, 65535, memory, sizeof memory, &v), SIMPLEV_DONE, 0);
+    CHECK(m.registers[42] == 0 && m.control[SIMPLEV_PC] == 6);
+    GIVES(simplev_machine_set_register(&m, 40, 9, &v), SIMPLEV_DONE, 0);
+    GIVES(simplev_machine_set_register(&m, 50, 8, &v), SIMPLEV_DONE, 0);
+    expected = m;
+    GIVES(simplev_machine_run(&m, sd, 65535, NULL, 0, &v), SIMPLEV_FAULT, 8);
+    CHECK(memcmp(&m, &expected, sizeof m) == 0);
+    expected.control[SIMPLEV_SOURCE] = expected.control[SIMPLEV_DESTINATION] = 1;
+    GIVES(simplev_machine_run(&m, sd, 65535, memory, sizeof memory, &v), SIMPLEV_MISALIGNED, 2);
+    CHECK(memcmp(&m, &expected, sizeof m) == 0);
+    CHECK(memory[7] == 0xff && memory[8] == 0 && memory[15] == 0);
+}
+
 /* A run of each kind, and a step, on a memory of no bytes: NULL, whatever the size says. */
 static void without_memory(void)
 {
@@ -230,6 +267,7 @@ int main(void)
     readings();
     runs();
     misaligned();
+    zeroing();
     without_memory();
     out_of_shape();
     printf("%d of %d checks hold\n", checks - wrong, checks);

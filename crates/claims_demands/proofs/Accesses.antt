@@ -1,4 +1,4 @@
--- What a unit with an access answers: 9 and 5 each have exactly their condition.
+-- What an access answers: 9 and 5 each have exactly their condition.
 use Prim.Native.Nat.{ℕ, _+_, _%_}
 use mathlib.Core.Path.{_≡_, refl, sym, _∙_}
 use mathlib.Core.Bool.{Bool, true, false, cond, true≢false, _||_}
@@ -9,27 +9,17 @@ use lib.ListN.{length}
 use Rattle.bits.proofs.Booleans.{by-cond, or-false}
 use Rattle.answers.specs.declared.Answer.{Answer}
 use Rattle.answers.specs.Answer.{numberOf}
-use Rattle.memory.specs.declared.access.Access.the-variants as access
-use Rattle.memory.specs.Access.{inside, located}
-use Rattle.memory.specs.Transfer.{loadedFrom, loaded, answerTo, storeAnswer}
-use Rattle.scalar.specs.Width.{bytesOf}
-use Rattle.walk_pairs.specs.declared.Pair.the-variants.{Found}
+use Rattle.memory.specs.Access.{inside}
 use Rattle.walk_pairs.specs.Side.{next, past}
 use Rattle.walk_operations.specs.declared.position.Fault.the-variants.{Misaligned, Outside}
 use Rattle.walk_operations.specs.declared.position.Position.{Position}
 use Rattle.walk_operations.specs.declared.position.Ran.{Ran}
 use Rattle.walk_operations.specs.Context.{Context, faultAnswer}
 use Rattle.walk_transfers.specs.declared.sides.Sides.{Sides}
-use Rattle.walk_transfers.specs.Transfer.{Transferred, moved, refused, afterPair, afterTransfer, atPair, transferUnit}
-use Rattle.walk_accesses.specs.declared.loading.LoadPlan.{LoadPlan}
-use Rattle.walk_accesses.specs.declared.storing.StorePlan.{StorePlan}
+use Rattle.walk_transfers.specs.Transfer.{Transferred, moved, refused}
+use Rattle.walk_transfers.specs.Transfer.{afterPair, afterTransfer}
 use Rattle.walk_accesses.specs.Alignment.{aligned, whereAligned}
-use Rattle.walk_accesses.specs.Loading.{widened, loadValue, loadedTo, loadElement, loadUnit}
-use Rattle.walk_accesses.specs.Storing.{storedTo, storeElement, storeUnit}
-use Rattle.walk_handler.specs.Prepare.{Plan, operation, move, load, store}
-use Rattle.walk_handler.specs.Unit.{unitOf}
-use Rattle.claims_demands.specs.Faults.{faults, Access, AccessAt, Divisible, FaultedBy}
-use Rattle.claims_demands.specs.Run.{pairAt}
+use Rattle.claims_demands.specs.Faults.{faults, Access, Divisible, FaultedBy}
 use Rattle.claims_demands.proofs.Exactly.{both, neither}
 
 -- an answer that is no memory fault
@@ -46,7 +36,7 @@ after-pair-served s bytes position i j =
     (λ e. refl) (λ e. refl)
 
 -- what memory makes of an access, by whether it lies wholly in it
-abbrev ByMemory : ℕ → Transferred → Bool → Type 0
+abbrev pub ByMemory : ℕ → Transferred → Bool → Type 0
 ByMemory address (moved registers memory) whole = whole ≡ true
 ByMemory address (refused fault at) whole = (whole ≡ false) × (fault ≡ Outside) × (at ≡ address)
 
@@ -79,7 +69,7 @@ module _ (size : ℕ) (a : Access) where
       }
 
 module _ (s : Sides) (bytes : ℕ) (c : Context) (i j : ℕ) (a : Access) where
-  faulted-at :
+  pub faulted-at :
       (t : Transferred) → ByMemory (a .address) t (inside (length (c .memory)) (a .address) (a .bytes)) →
       FaultedBy (length (c .memory)) a
       (afterTransfer s bytes c i j (whereAligned (a .address) (a .bytes) t) .answer)
@@ -102,43 +92,3 @@ module _ (s : Sides) (bytes : ℕ) (c : Context) (i j : ℕ) (a : Access) where
       by-address true e = by-memory (eqb-true (a .address % a .bytes) 0 e) t memory
       by-address false e = unfold afterTransfer in
           misaligned-by (length (c .memory)) a (eqb-false (a .address % a .bytes) 0 e)
-
-load-by-memory :
-    (p : LoadPlan) (c : Context) (address j : ℕ) →
-    ByMemory address (loadedTo p c address j (loadValue (c .memory) address (p .width) (p .signed)))
-    (inside (length (c .memory)) address (bytesOf (p .width)))
-unfolding loadValue loaded located
-load-by-memory p c address j = by (inside (length (c .memory)) address (bytesOf (p .width)))
-  where
-    by :
-        (whole : Bool) →
-        ByMemory address
-        (loadedTo p c address j
-        (widened (p .signed) (p .width)
-        (loadedFrom (c .memory) (bytesOf (p .width)) (cond whole (access.Inside address) access.Outside)))) whole
-    by true = refl
-    by false = (refl, refl, refl)
-
-store-by-memory :
-    (p : StorePlan) (c : Context) (address value : ℕ) →
-    ByMemory address (storedTo p c address value (storeAnswer (c .memory) address (bytesOf (p .width))))
-    (inside (length (c .memory)) address (bytesOf (p .width)))
-unfolding storeAnswer located
-store-by-memory p c address value = by (inside (length (c .memory)) address (bytesOf (p .width)))
-  where
-    by :
-        (whole : Bool) →
-        ByMemory address
-        (storedTo p c address value (answerTo (cond whole (access.Inside address) access.Outside))) whole
-    by true = refl
-    by false = (refl, refl, refl)
-
-pub unit-faulted-by :
-    (plan : Plan) (c : Context) (i j : ℕ) (a : Access) → pairAt plan (c .position) ≡ Found i j →
-    AccessAt plan (c .registers) i j a → FaultedBy (length (c .memory)) a (unitOf plan c .answer)
-unit-faulted-by (operation p) c i j a found at = absurd at
-unit-faulted-by (move s) c i j a found at = absurd at
-unit-faulted-by (load p) c i j a found at = unfold loadUnit transferUnit atPair loadElement in
-    rw (found, at) (faulted-at (p .sides) 4 c i j _ _ (load-by-memory p c _ j))
-unit-faulted-by (store p) c i j a found at = unfold storeUnit transferUnit atPair storeElement in
-    rw (found, at) (faulted-at (p .sides) 4 c i j _ _ (store-by-memory p c _ _))

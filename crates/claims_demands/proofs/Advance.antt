@@ -1,6 +1,7 @@
 -- A unit that pauses goes up by at least one position.
 use Prim.Native.Nat.{ℕ, _+_, _<_, _≤_}
 use mathlib.Core.Path.{_≡_, refl, sym}
+use mathlib.Core.Logic.{inl, inr}
 use mathlib.Core.Bool.{Bool, true, false, cond, _||_, true≢false}
 use native.Mathlib.Omega.{arith}
 use lib.Dec.{ltb}
@@ -9,9 +10,10 @@ use Rattle.answers.specs.Answer.{pauses}
 use Rattle.walk_operands.specs.Mask.{isOn}
 use Rattle.walk_pairs.specs.declared.Side.{Side}
 use Rattle.walk_pairs.specs.declared.Pair.{Pair}
-use Rattle.walk_pairs.specs.declared.Pair.the-variants.{Found, End}
+use Rattle.walk_pairs.specs.declared.Pair.the-variants.{Found, Zeroed, End}
 use Rattle.walk_pairs.specs.Side.{start, next, past}
-use Rattle.walk_pairs.proofs.Found.{found-rest, rests-from}
+use Rattle.walk_pairs.specs.Pair.{Meets}
+use Rattle.walk_pairs.proofs.Found.{pair-rest, rests-from}
 use Rattle.walk_pausable.specs.Outcome.{Paused}
 use Rattle.walk_operations.specs.declared.position.Fault.{Fault}
 use Rattle.walk_operations.specs.declared.position.Fault.the-variants.{Misaligned, Outside}
@@ -21,8 +23,8 @@ use Rattle.walk_operations.specs.declared.operation.OperationPlan.{OperationPla
 use Rattle.walk_transfers.specs.declared.sides.Sides.{Sides}
 use Rattle.walk_operations.specs.Context.{Context, faultAnswer, pausing}
 use Rattle.walk_operations.specs.Operation.{goOn, afterOn, positionAfter, operationUnit}
-use Rattle.walk_transfers.specs.Transfer.{Transferred, moved, refused, pairOf, afterPair, afterTransfer, atPair}
-use Rattle.walk_transfers.specs.Transfer.{transferUnit}
+use Rattle.walk_transfers.specs.Transfer.{Transferred, moved, refused, Element, started, pairOf}
+use Rattle.walk_transfers.specs.Transfer.{afterPair, afterTransfer, atPair, transferUnit}
 use Rattle.bits.proofs.Booleans.{by-cond, or-false}
 
 -- an answer is a pause only where the position has gone up, by some count of positions
@@ -91,25 +93,25 @@ module _ (s : Sides) (goes : Goes s) (bytes : ℕ) (position : Position) where
       by single false w = side-rises (s .destination) (position .destination) j (goes single w) k
 
 pub transfer-rises :
-    (s : Sides) → Goes s → (bytes : ℕ) (transfer : Context → ℕ → ℕ → Transferred) (c : Context) →
-    Paused pausing (transferUnit s bytes transfer c) →
-    counted s (c .position) < counted s (transferUnit s bytes transfer c .state .position)
+    (s : Sides) → Goes s → (bytes : ℕ) (transfer zero : Element) (c : Context) →
+    Paused pausing (transferUnit s bytes transfer zero c) →
+    counted s (c .position) < counted s (transferUnit s bytes transfer zero c .state .position)
 unfolding transferUnit
-transfer-rises s goes bytes transfer c = by (pairOf s (c .position)) refl
+transfer-rises s goes bytes transfer zero c = by (pairOf s (c .position)) refl
   where
-    by-transfer :
-        (i j : ℕ) → start (s .source) (c .position .source) ≤ i →
-        start (s .destination) (c .position .destination) ≤ j →
-        (t : Transferred) → Paused pausing (afterTransfer s bytes c i j t) →
+    at :
+        (i j : ℕ) → Meets (pairOf s (c .position)) i j → (t : Transferred) →
+        Paused pausing (afterTransfer s bytes c i j t) →
         counted s (c .position) < counted s (afterTransfer s bytes c i j t .state .position)
-    by-transfer i j h k (moved after memory) = unfold afterTransfer in pair-rises s goes bytes (c .position) i j h k
-    by-transfer i j h k (refused fault address) = unfold afterTransfer in λ q. absurd (fault-ends fault address q)
+    at i j met (moved after memory) = unfold afterTransfer pairOf started in
+        let r = pair-rest (s .source) (s .destination) (s .vl) (start (s .source) (c .position .source))
+        (start (s .destination) (c .position .destination)) i j met in
+        pair-rises s goes bytes (c .position) i j (rests-from (r .source)) (rests-from (r .destination))
+    at i j met (refused fault address) = unfold afterTransfer in λ q. absurd (fault-ends fault address q)
 
     by :
-        (q : Pair) → pairOf s (c .position) ≡ q → Paused pausing (atPair s bytes (transfer c) c q) →
-        counted s (c .position) < counted s (atPair s bytes (transfer c) c q .state .position)
+        (q : Pair) → pairOf s (c .position) ≡ q → Paused pausing (atPair s bytes transfer zero c q) →
+        counted s (c .position) < counted s (atPair s bytes transfer zero c q .state .position)
     by End e = unfold atPair in λ q. absurd (done-ends 0 q)
-    by (Found i j) e = unfold atPair pairOf in
-        let r = found-rest (s .source) (s .destination) (s .vl) (start (s .source) (c .position .source))
-        (start (s .destination) (c .position .destination)) i j e in
-        by-transfer i j (rests-from (r .source)) (rests-from (r .destination)) (transfer c i j)
+    by (Found i j) e = unfold atPair in at i j (inl e) (transfer c i j)
+    by (Zeroed i j) e = unfold atPair in at i j (inr e) (zero c i j)

@@ -16,9 +16,9 @@ use Rattle.walk_pausable.proofs.Bound.{call-bound}
 use Rattle.walk_operations.specs.declared.position.Position.{Position}
 use Rattle.walk_operations.specs.Context.{Context, pausing}
 use Rattle.walk_transfers.specs.SidesReady.{Within}
-use Rattle.walk_transfers.specs.Moving.{moveUnit, moveElement}
+use Rattle.walk_transfers.specs.Moving.{moveUnit, moveElement, zeroElement}
 use Rattle.walk_accesses.specs.Loading.{loadUnit, loadElement}
-use Rattle.walk_accesses.specs.Storing.{storeUnit, storeElement}
+use Rattle.walk_accesses.specs.Storing.{storeUnit, storeElement, storeZero}
 use Rattle.walk_plans.specs.Plan.{operationPlan, movePlan, loadPlan, storePlan}
 use Rattle.walk_handler.specs.Prepare.{Plan, operation, move, load, store, prepared}
 use Rattle.walk_handler.specs.Unit.{unitOf}
@@ -58,17 +58,17 @@ module _ (vl : ℕ) (registers : List ℕ) (c : Context) where
       rw (served-plan vl (Move w) (move (movePlan vl registers w)) plan e)
       (unfold moveUnit in
       transfer-rises (movePlan vl registers w) (unfold movePlan in λ single still. not-false _ single) 2
-      (moveElement (movePlan vl registers w)) c)
+      (moveElement (movePlan vl registers w)) (zeroElement (movePlan vl registers w)) c)
   unit-rises (Load w) plan e =
       rw (served-plan vl (Load w) (load (loadPlan vl registers w)) plan e)
       (unfold loadUnit in
       transfer-rises (loadPlan vl registers w .sides) (unfold loadPlan in λ single still. absurd (true≢false still)) 4
-      (loadElement (loadPlan vl registers w)) c)
+      (loadElement (loadPlan vl registers w)) (zeroElement (loadPlan vl registers w .sides)) c)
   unit-rises (Store w) plan e =
       rw (served-plan vl (Store w) (store (storePlan vl registers w)) plan e)
       (unfold storeUnit in
       transfer-rises (storePlan vl registers w .sides) (unfold storePlan in λ single still. refl) 4
-      (storeElement (storePlan vl registers w)) c)
+      (storeElement (storePlan vl registers w)) (storeZero (storePlan vl registers w)) c)
   unit-rises Unknown plan e = let z : _≡_ {A = ℕ} 0 1 = cc in absurd (omega arith)
 
 -- the positions that are left

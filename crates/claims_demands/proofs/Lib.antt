@@ -9,6 +9,7 @@ pub mod Advance
 pub mod Bound
 pub mod Exactly
 pub mod Accesses
+pub mod UnitAccesses
 pub mod Faults
 pub mod Runs
 pub mod Stands

@@ -7,23 +7,8 @@ use native.Mathlib.Omega.{arith}
 use borrow.Author.Tests.{eq-eqb, ne-eqb, eqb-true, eqb-false}
 use lib.Dec.{eqb}
 use Rattle.walk_operands.specs.Mask.{onBits, isOn}
+use Rattle.walk_operands.proofs.Flipped.{flipped}
 use Rattle.claims_demands.specs.Masks.{OnWhereTheyDiffer}
-
-halved : (x i : ℕ) → x / 2 ^ suc i ≡ x / 2 / 2 ^ i
-halved x i = rw (pow-succ' 2 i) (sym (div-div-eq-div-mul x 2 (2 ^ i)))
-
--- bit i of a number below 2^k, and of that number with its k bits flipped
-flipped : (k i v : ℕ) → i < k → v < 2 ^ k → (2 ^ k - 1 - v) / 2 ^ i % 2 + v / 2 ^ i % 2 ≡ 1
-flipped zero i v h l = absurd (omega arith)
-flipped (suc k) zero v h l =
-    let p = two-pow-succ k in
-    let below : v < 2 ^ k + 2 ^ k = rw (← p) l in
-    rw (p, pow-zero 2, div-one (2 ^ k + 2 ^ k - 1 - v), div-one v) (omega arith)
-flipped (suc k) (suc i) v h l =
-    let p = two-pow-succ k in
-    let below : v < 2 ^ k + 2 ^ k = rw (← p) l in
-    let half : (2 ^ k + 2 ^ k - 1 - v) / 2 ≡ 2 ^ k - 1 - v / 2 = omega arith in
-    rw (p, halved (2 ^ k + 2 ^ k - 1 - v) i, halved v i, half) (flipped k i (v / 2) (omega arith) (omega arith))
 
 other-bit : (a b : ℕ) → a + b ≡ 1 → eqb a 1 ≡ not (eqb b 1)
 other-bit a b e = by (eqb b 1) refl

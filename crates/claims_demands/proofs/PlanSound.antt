@@ -3,7 +3,6 @@ use Prim.Native.Nat.{ℕ}
 use mathlib.Core.Logic.{inl}
 use mathlib.Core.Path.{_≡_, refl}
 use mathlib.Core.List.{List}
-use lib.ListN.{getD}
 use native.Mathlib.Omega.{arith}
 use Rattle.decode.specs.declared.decoded.Decoded.{Decoded}
 use Rattle.decode.specs.declared.decoded.Decoded.the-variants.{Operation, Move, Load, Store, Unknown}
@@ -20,11 +19,11 @@ use Rattle.walk_accesses.specs.declared.storing.StorePlan.{StorePlan}
 use Rattle.walk_transfers.specs.declared.sides.Sides.{Sides}
 use Rattle.walk_operations.specs.Context.{Context}
 use Rattle.walk_transfers.specs.SidesReady.{Within}
-use Rattle.walk_transfers.specs.Moving.{moveElement, moveUnit}
+use Rattle.walk_transfers.specs.Moving.{moveElement, zeroElement, moveUnit}
 use Rattle.walk_transfers.specs.Transfer.{Transferred}
 use Rattle.walk_accesses.specs.Alignment.{aligned, whereAligned}
 use Rattle.walk_accesses.specs.Loading.{addressAt, loadValue, loadElement, loadUnit, loadedTo}
-use Rattle.walk_accesses.specs.Storing.{storeElement, storeUnit, storedTo}
+use Rattle.walk_accesses.specs.Storing.{storeValue, storeElement, storeZero, storeUnit, storedTo}
 use Rattle.walk_plans.specs.Plan.{operationPlan, movePlan, loadPlan, storePlan}
 use Rattle.walk_handler.specs.Prepare.{Plan, operation, move, load, store, prepared}
 use Rattle.walk_handler.specs.Unit.{unitOf}
@@ -41,6 +40,12 @@ module _ (Writes : ℕ → Type 0) (c : Context) where
       TransferKept Writes (c .registers) (moveElement s c i j)
   unfolding moveElement
   move-kept s i j w = one-written (c .registers) (registerAt (s .destination .place) j) _ w
+
+  zero-kept :
+      (s : Sides) (i j : ℕ) → Writes (registerAt (s .destination .place) j) →
+      TransferKept Writes (c .registers) (zeroElement s c i j)
+  unfolding zeroElement
+  zero-kept s i j w = one-written (c .registers) (registerAt (s .destination .place) j) 0 w
 
   -- an access that is refused writes no register
   where-aligned-kept :
@@ -63,17 +68,16 @@ module _ (Writes : ℕ → Type 0) (c : Context) where
       by address (loads.Value value) = one-written (c .registers) (registerAt (p .sides .destination .place) j) _ w
       by address loads.Outside = tt
 
-  store-kept : (p : StorePlan) (i j : ℕ) → TransferKept Writes (c .registers) (storeElement p c i j)
-  unfolding storeElement
-  store-kept p i j =
+  store-kept : (p : StorePlan) (j value : ℕ) → TransferKept Writes (c .registers) (storeValue p c j value)
+  unfolding storeValue
+  store-kept p j value =
       let address = addressAt (p .sides .destination .place) (p .offset) (p .width) (c .registers) j in
       where-aligned-kept address (bytesOf (p .width)) _
-      (by address (getD (c .registers) (registerAt (p .sides .source .place) i) 0)
-      (storeAnswer (c .memory) address (bytesOf (p .width))))
+      (by address (storeAnswer (c .memory) address (bytesOf (p .width))))
     where
-      by : (address value : ℕ) (s : Stored) → TransferKept Writes (c .registers) (storedTo p c address value s)
-      by address value stores.Done = unwritten (c .registers)
-      by address value stores.Outside = tt
+      by : (address : ℕ) (s : Stored) → TransferKept Writes (c .registers) (storedTo p c address value s)
+      by address stores.Done = unwritten (c .registers)
+      by address stores.Outside = tt
 
 module _ (vl : ℕ) (registers : List ℕ) (c : Context) (within : Within vl (c .position)) where
   pub unit-sound :
@@ -89,19 +93,25 @@ module _ (vl : ℕ) (registers : List ℕ) (c : Context) (within : Within vl (c 
       rw (served-plan vl (Move w) (move (movePlan vl registers w)) plan e)
       (unfold movePlan moveUnit in
       transfer-sound (movePlan vl registers w) 2 (MayWrite vl (Move w)) c within (moveElement (movePlan vl registers w))
+      (zeroElement (movePlan vl registers w))
       (λ i j h k. move-kept (MayWrite vl (Move w)) c (movePlan vl registers w) i j
+      (inl (record { position = j; below = omega (arith, k); register = refl })))
+      (λ i j h k. zero-kept (MayWrite vl (Move w)) c (movePlan vl registers w) i j
       (inl (record { position = j; below = omega (arith, k); register = refl }))))
   unit-sound (Load w) plan e =
       let made = loadPlan vl registers w in
       rw (served-plan vl (Load w) (load made) plan e)
       (unfold loadPlan loadUnit in
-      transfer-sound (made .sides) 4 (MayWrite vl (Load w)) c within (loadElement made)
+      transfer-sound (made .sides) 4 (MayWrite vl (Load w)) c within (loadElement made) (zeroElement (made .sides))
       (λ i j h k. load-kept (MayWrite vl (Load w)) c made i j
+      (inl (record { position = j; below = omega (arith, k); register = refl })))
+      (λ i j h k. zero-kept (MayWrite vl (Load w)) c (made .sides) i j
       (inl (record { position = j; below = omega (arith, k); register = refl }))))
   unit-sound (Store w) plan e =
       let made = storePlan vl registers w in
       rw (served-plan vl (Store w) (store made) plan e)
       (unfold storePlan storeUnit in
-      transfer-sound (made .sides) 4 (MayWrite vl (Store w)) c within (storeElement made)
-      (λ i j h k. store-kept (MayWrite vl (Store w)) c made i j))
+      transfer-sound (made .sides) 4 (MayWrite vl (Store w)) c within (storeElement made) (storeZero made)
+      (λ i j h k. unfold storeElement in store-kept (MayWrite vl (Store w)) c made j _)
+      (λ i j h k. unfold storeZero in store-kept (MayWrite vl (Store w)) c made j 0))
   unit-sound Unknown plan e = let z : _≡_ {A = ℕ} 0 1 = cc in absurd (omega arith)

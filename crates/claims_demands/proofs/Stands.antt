@@ -6,7 +6,6 @@ use lib.ListN.{length}
 use borrow.Author.Tests.{eqb-true, ne-eqb}
 use Rattle.answers.specs.declared.Answer.{Answer}
 use Rattle.answers.specs.Answer.{numberOf, pauses}
-use Rattle.walk_pairs.specs.declared.Pair.the-variants.{Found}
 use Rattle.walk_pausable.specs.Outcome.{Outcome}
 use Rattle.walk_pausable.specs.Walk.{walk}
 use Rattle.walk_pausable.specs.Call.{Prepared, refused, ready}
@@ -20,7 +19,7 @@ use Rattle.claims_demands.specs.Faults.{faults, Access, AccessAt, Faulte
 use Rattle.claims_demands.specs.Run.{systemAtOffsets, pairAt, StandsAtFault}
 use Rattle.claims_demands.proofs.Systems.{prepare-refusal}
 use Rattle.claims_demands.proofs.Faults.{AtFault, unit-fault}
-use Rattle.claims_demands.proofs.Accesses.{unit-faulted-by}
+use Rattle.claims_demands.proofs.UnitAccesses.{unit-faulted-by}
 use Rattle.claims_demands.proofs.Runs.{run-walk, run-refused}
 
 is-paused : (a : Answer) → pauses a ≡ true → numberOf a ≡ 1
@@ -39,10 +38,11 @@ unfolding unit
 fault-at plan s = unit-fault plan (contextOf s)
 
 pub faulted-known :
-    (plan : Plan) (s : System) (i j : ℕ) (a : Access) → pairAt plan (positionOf (s .machine)) ≡ Found i j →
-    AccessAt plan (s .machine .registers) i j a → FaultedBy (length (s .memory)) a (unit plan s .answer)
+    (plan : Plan) (s : System) (a : Access) →
+    AccessAt plan (s .machine .registers) (pairAt plan (positionOf (s .machine))) a →
+    FaultedBy (length (s .memory)) a (unit plan s .answer)
 unfolding unit
-faulted-known plan s = unit-faulted-by plan (contextOf s)
+faulted-known plan s a = unit-faulted-by (contextOf s) a plan
 
 why-answered :
     (plan : Plan) (s : System) (o : Outcome Answer System) (a : Access) → unit plan s ≡ o →
@@ -78,7 +78,7 @@ stands-after word n s plan e ends f =
       last = last;
       source = at .source;
       destination = at .destination;
-      pair = at .found;
+      pair = at .met;
       state =
           sym (ap (λ o. o .state) last)
           ∙ stands-at plan (run word (ends .units) s .state) (at .source) (at .destination) (at .stands);

@@ -1,19 +1,20 @@
 -- The same of a unit of a move, a load or a store.
 use Prim.Native.Nat.{ℕ, _<_}
 use mathlib.Core.Path.{_≡_, refl}
+use mathlib.Core.Logic.{inl, inr}
 use mathlib.Core.Bool.{_||_}
 use mathlib.Core.List.{List}
 use Rattle.bits.proofs.Booleans.{by-cond}
 use Rattle.walk_pairs.specs.declared.Pair.{Pair}
-use Rattle.walk_pairs.specs.declared.Pair.the-variants.{Found, End}
+use Rattle.walk_pairs.specs.declared.Pair.the-variants.{Found, Zeroed, End}
 use Rattle.walk_pairs.specs.Side.{next, past}
-use Rattle.walk_pairs.proofs.Found.{pair-in, start-in}
 use Rattle.walk_operations.specs.declared.position.Position.{Position}
 use Rattle.walk_operations.specs.Context.{Context}
 use Rattle.walk_transfers.specs.declared.sides.Sides.{Sides}
 use Rattle.walk_transfers.specs.SidesReady.{Within}
-use Rattle.walk_transfers.specs.Transfer.{Transferred, moved, refused}
+use Rattle.walk_transfers.specs.Transfer.{Transferred, moved, refused, Element}
 use Rattle.walk_transfers.specs.Transfer.{pairOf, afterPair, afterTransfer, atPair, transferUnit}
+use Rattle.walk_transfers.proofs.Standing.{reached}
 use Rattle.claims_demands.proofs.RegistersKept.{RegistersKept, unwritten}
 use Rattle.claims_demands.proofs.Units.{RanSound, UnitSound, paused-walked, ended-sound, faulted-sound}
 
@@ -42,19 +43,21 @@ module _ (s : Sides) (bytes : ℕ) (Writes : ℕ → Type 0) (c : Context) (w : 
       record { answer = faulted-sound (c .position) fault address i j; kept = unwritten (c .registers) }
 
   pub transfer-sound :
-      (transfer : Context → ℕ → ℕ → Transferred) →
+      (transfer zero : Element) →
       ((i j : ℕ) → i < s .vl → j < s .vl → TransferKept Writes (c .registers) (transfer c i j)) →
-      UnitSound Writes (c .registers) (transferUnit s bytes transfer c)
+      ((i j : ℕ) → i < s .vl → j < s .vl → TransferKept Writes (c .registers) (zero c i j)) →
+      UnitSound Writes (c .registers) (transferUnit s bytes transfer zero c)
   unfolding transferUnit
-  transfer-sound transfer kept = by (pairOf s (c .position)) refl
+  transfer-sound transfer zero kept kept-zero = by (pairOf s (c .position)) refl
     where
       by :
           (q : Pair) → pairOf s (c .position) ≡ q →
-          UnitSound Writes (c .registers) (atPair s bytes (transfer c) c q)
+          UnitSound Writes (c .registers) (atPair s bytes transfer zero c q)
       by End e = unfold atPair in
           record { answer = ended-sound (c .position) bytes; kept = unwritten (c .registers) }
-      by (Found i j) e = unfold atPair pairOf in
-          let source = start-in (s .source) (s .vl) _ (w .source) in
-          let destination = start-in (s .destination) (s .vl) _ (w .destination) in
-          let b = pair-in (s .source) (s .destination) (s .vl) _ _ i j source destination e in
-          after-transfer-sound i j (transfer c i j) (kept i j (b .0) (b .1))
+      by (Found i j) e = unfold atPair in
+          let r = reached s (c .position) i j w (inl e) in
+          after-transfer-sound i j (transfer c i j) (kept i j (r .i-below) (r .j-below))
+      by (Zeroed i j) e = unfold atPair in
+          let r = reached s (c .position) i j w (inr e) in
+          after-transfer-sound i j (zero c i j) (kept-zero i j (r .i-below) (r .j-below))

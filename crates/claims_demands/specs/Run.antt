@@ -9,6 +9,7 @@ use Rattle.answers.specs.declared.Answer.{Answer}
 use Rattle.answers.specs.Answer.{numberOf, valueOf}
 use Rattle.walk_pairs.specs.declared.Pair.{Pair}
 use Rattle.walk_pairs.specs.declared.Pair.the-variants.{Found}
+use Rattle.walk_pairs.specs.Pair.{Meets}
 use Rattle.walk_pausable.specs.Outcome.{Outcome}
 use Rattle.walk_operations.specs.declared.position.Position.{Position}
 use Rattle.walk_pausable.specs.Call.{ready}
@@ -51,10 +52,12 @@ pub record StandsAtFault (word n : ℕ) (s : System) : Type 0 where
   pub last : unit plan (run word units s .state) ≡ run word n s
   pub source : ℕ
   pub destination : ℕ
-  pub pair : pairAt plan (positionOf (run word units s .state .machine)) ≡ Found source destination
+  pub pair : Meets (pairAt plan (positionOf (run word units s .state .machine))) source destination
   pub state : run word n s .state ≡ systemAtOffsets (run word units s .state) source destination
   pub access : Access
-  pub accessed : AccessAt plan (run word units s .state .machine .registers) source destination access
+  pub accessed :
+      AccessAt plan (run word units s .state .machine .registers)
+      (pairAt plan (positionOf (run word units s .state .machine))) access
   pub why : FaultedBy (length (run word units s .state .memory)) access (run word n s .answer)
 
 -- what a run from s answers and leaves, o
@@ -72,5 +75,6 @@ pub record RunSound : Type 0 where
   pub fault : (word n : ℕ) (s : System) → faults (run word n s .answer) ≡ true → StandsAtFault word n s
   -- no access is refused for another reason, and none that has one is served
   pub faulted :
-      (plan : Plan) (s : System) (i j : ℕ) (a : Access) → pairAt plan (positionOf (s .machine)) ≡ Found i j →
-      AccessAt plan (s .machine .registers) i j a → FaultedBy (length (s .memory)) a (unit plan s .answer)
+      (plan : Plan) (s : System) (a : Access) →
+      AccessAt plan (s .machine .registers) (pairAt plan (positionOf (s .machine))) a →
+      FaultedBy (length (s .memory)) a (unit plan s .answer)

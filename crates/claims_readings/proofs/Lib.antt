@@ -1,3 +1,4 @@
 pub mod Memories
 pub mod Readings
 pub mod WhyThePremise
+pub mod Zeroing

@@ -16,12 +16,12 @@ use Rattle.decode.specs.Decoding.{decoded, decodedAs, compressedMove}
 use Rattle.walk_operands.specs.Place.{registerAt, fits}
 use Rattle.walk_operands.specs.Mask.{onBits, maskBy, isOn}
 use Rattle.walk_pairs.specs.Side.{start, next, past}
-use Rattle.walk_pairs.specs.Pair.{firstOn, skipped, pairFrom}
+use Rattle.walk_pairs.specs.Pair.{firstOn, skips, skipped, off, met, pairFrom}
 use Rattle.walk_pausable.specs.Walk.{walk}
 use Rattle.walk_pausable.specs.Call.{begun}
 use Rattle.walk_operations.specs.Operation.{elementOf, registersAfter, goOn, afterOn, positionAfter, operationUnit}
-use Rattle.walk_transfers.specs.Transfer.{pairOf, afterPair, afterTransfer, atPair, transferUnit}
-use Rattle.walk_transfers.specs.Moving.{moveElement, moveUnit}
+use Rattle.walk_transfers.specs.Transfer.{started, pairOf, afterPair, afterTransfer, atPair, transferUnit}
+use Rattle.walk_transfers.specs.Moving.{moveElement, zeroElement, moveUnit}
 use Rattle.walk_accesses.specs.Alignment.{aligned, whereAligned}
 use Rattle.walk_accesses.specs.Loading.{addressAt, loadValue, loadElement, loadUnit}
 use Rattle.walk_accesses.proofs.Doubles.{extended-double}
@@ -55,9 +55,9 @@ use Rattle.claims_readings.specs.Machines.{
 pub readings : Readings
 unfolding accepts pauses verdict written computed enabledRange clearBelow entryAnswers candidate highest heldEntry
     stateInShape ofWord wordOf goodWord inside located loaded funct3Rows funct6Rows funct7Rows firstForm lookUp resolved
-    decoded decodedAs compressedMove registerAt fits onBits maskBy isOn start next past firstOn skipped pairFrom walk
-    begun elementOf registersAfter goOn afterOn positionAfter operationUnit pairOf afterPair afterTransfer atPair
-    transferUnit moveElement moveUnit aligned whereAligned addressAt loadValue loadElement loadUnit all defaultWidth
+    decoded decodedAs compressedMove registerAt fits onBits maskBy isOn start next past firstOn skips skipped off met pairFrom walk
+    begun elementOf registersAfter goOn afterOn positionAfter operationUnit started pairOf afterPair afterTransfer atPair
+    transferUnit moveElement zeroElement moveUnit aligned whereAligned addressAt loadValue loadElement loadUnit all defaultWidth
     fitting checkedOperands operationPlan movePlan loadPlan served prepared inShape roomInShape tablesInShape
     setStateWord setRegisterEntry setRegister prepare unit run putFrom base settings holding tagged masked withLengths
     positioned nines scalarDestination sourceMask destinationMask loading enabledBelow full sums

@@ -2,3 +2,4 @@ pub mod Machines
 pub mod Readings
 pub mod Report
 pub mod WhyThePremise
+pub mod Zeroing

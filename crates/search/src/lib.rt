@@ -34,7 +34,7 @@ pub fn entry_answers(table: Table, key: u8, word: u16) -> bool
 }
 
 // The enabled entries up to the last that isn't empty in both tables. Most tables have few entries, and an empty one
-// answers to no key.
+// answers to no key. Two entries are tested in a turn, since an enabled range has an even number of them.
 pub fn used_range<'a>(
     cfg: u32,
     register_table: &'a [u16; ENTRIES],
@@ -45,6 +45,10 @@ pub fn used_range<'a>(
     let range = enabled_range(cfg);
     let mut end = range.end;
     while range.first < end {
+        if (register_table[end - 1] != 0) | (predicate_table[end - 1] != 0) {
+            break;
+        }
+        end -= 1;
         if (register_table[end - 1] != 0) | (predicate_table[end - 1] != 0) {
             break;
         }

@@ -37,3 +37,11 @@ module _ (cfg : ℕ) where
       by : (t : Bool) → cond t (2 * (cfg / 1 % 8)) (min 16 (2 * (cfg / 1 % 8) + 2 ^ (cfg / 8 % 4 + 1))) ≤ 16
       by true = omega arith
       by false = omega arith
+
+  pub end-even : enabledRange cfg .end % 2 ≡ 0
+  unfolding enabledRange
+  end-even = by (eqb cfg 31)
+    where
+      by : (t : Bool) → cond t (2 * (cfg / 1 % 8)) (min 16 (2 * (cfg / 1 % 8) + 2 ^ (cfg / 8 % 4 + 1))) % 2 ≡ 0
+      by true = omega arith
+      by false = omega (arith, power (cfg / 8 % 4) (omega arith) .0)

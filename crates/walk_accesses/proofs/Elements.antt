@@ -1,21 +1,24 @@
 -- What a load and a store move at a pair, by the test of the address.
 use Prim.Native.Nat.{ℕ, _*_, _<_}
 use mathlib.Core.Bool.{true, false}
-use mathlib.Core.Path.{_≡_}
+use mathlib.Core.Path.{_≡_, refl, ap}
 use native.Mathlib.Omega.{arith}
-use lib.ListN.{getD}
 use Rattle.memory.specs.Transfer.{storeAnswer}
-use Rattle.walk_operands.specs.Place.{registerAt}
 use Rattle.scalar.specs.declared.width.Width.{Width}
 use Rattle.scalar.specs.declared.width.Width.the-variants.{Byte, Half, Word, Double}
 use Rattle.scalar.specs.Width.{bytesOf}
 use Rattle.walk_accesses.specs.declared.loading.LoadPlan.{LoadPlan}
 use Rattle.walk_accesses.specs.declared.storing.StorePlan.{StorePlan}
 use Rattle.walk_operations.specs.declared.position.Fault.the-variants.{Misaligned}
-use Rattle.walk_operations.specs.Context.{Context}
+use Rattle.walk_operations.specs.declared.position.Position.{Position}
+use Rattle.walk_operations.specs.Context.{Context, context}
+use Rattle.memory.specs.declared.load.Loaded.{Loaded}
+use Rattle.memory.specs.declared.load.Loaded.the-variants.{Value, Outside}
+use Rattle.memory.specs.declared.store.Stored.{Stored}
+use Rattle.memory.specs.declared.store.Stored.the-variants as store
 use Rattle.walk_accesses.specs.Alignment.{aligned, whereAligned}
 use Rattle.walk_accesses.specs.Loading.{addressAt, loadValue, loadedTo, loadElement}
-use Rattle.walk_accesses.specs.Storing.{storedTo, storeElement}
+use Rattle.walk_accesses.specs.Storing.{storedTo, storeValue}
 use Rattle.walk_transfers.specs.Transfer.{Transferred, refused}
 
 -- the stride of an address has 64 bits
@@ -45,12 +48,42 @@ pub load-element :
 unfolding loadElement
 load-element p c i j address at = rw (← at)
 
-pub store-element :
-    (p : StorePlan) (c : Context) (i j address : ℕ) →
+pub store-value :
+    (p : StorePlan) (c : Context) (j value address : ℕ) →
     address ≡ addressAt (p .sides .destination .place) (p .offset) (p .width) (c .registers) j →
-    storeElement p c i j
+    storeValue p c j value
     ≡ whereAligned address (bytesOf (p .width))
-    (storedTo p c address (getD (c .registers) (registerAt (p .sides .source .place) i) 0)
-    (storeAnswer (c .memory) address (bytesOf (p .width))))
-unfolding storeElement
-store-element p c i j address at = rw (← at)
+    (storedTo p c address value (storeAnswer (c .memory) address (bytesOf (p .width))))
+unfolding storeValue
+store-value p c j value address at = rw (← at)
+
+-- an element goes by registers and memory alone
+module _ (c : Context) (position : Position) where
+  pub load-anywhere :
+      (p : LoadPlan) (i j : ℕ) → loadElement p (context (c .registers) (c .memory) position) i j ≡ loadElement p c i j
+  unfolding loadElement
+  load-anywhere p i j =
+      let address = addressAt (p .sides .source .place) (p .offset) (p .width) (c .registers) i in
+      ap (whereAligned address (bytesOf (p .width)))
+      (by address (loadValue (c .memory) address (p .width) (p .signed)))
+    where
+      by :
+          (address : ℕ) (l : Loaded) →
+          loadedTo p (context (c .registers) (c .memory) position) address j l ≡ loadedTo p c address j l
+      by address (Value value) = refl
+      by address Outside = refl
+
+  pub store-anywhere :
+      (p : StorePlan) (j value : ℕ) →
+      storeValue p (context (c .registers) (c .memory) position) j value ≡ storeValue p c j value
+  unfolding storeValue
+  store-anywhere p j value =
+      let address = addressAt (p .sides .destination .place) (p .offset) (p .width) (c .registers) j in
+      ap (whereAligned address (bytesOf (p .width)))
+      (by address (storeAnswer (c .memory) address (bytesOf (p .width))))
+    where
+      by :
+          (address : ℕ) (a : Stored) →
+          storedTo p (context (c .registers) (c .memory) position) address value a ≡ storedTo p c address value a
+      by address store.Done = refl
+      by address store.Outside = refl

@@ -18,6 +18,7 @@ use Rattle.walk_accesses.specs.declared.loading.LoadPlan.{LoadPlan}
 use Rattle.walk_operations.specs.Context.{Context}
 use Rattle.walk_operations.specs.declared.position.Fault.the-variants as fault
 use Rattle.walk_transfers.specs.Transfer.{Transferred, moved, refused, transferUnit}
+use Rattle.walk_transfers.specs.Moving.{zeroElement}
 use Rattle.walk_accesses.specs.Alignment.{whereAligned}
 
 -- The address of position i is (register + immediate + i × bytes of the access) when the address register is scalar,
@@ -54,5 +55,6 @@ loadElement p c i j =
     whereAligned address (bytesOf (p .width))
     (loadedTo p c address j (loadValue (c .memory) address (p .width) (p .signed)))
 
+-- no memory is read for a 0
 unfoldable pub loadUnit : LoadPlan → Context → Outcome Answer Context
-loadUnit p c = transferUnit (p .sides) 4 (loadElement p) c
+loadUnit p c = transferUnit (p .sides) 4 (loadElement p) (zeroElement (p .sides)) c

@@ -20,12 +20,18 @@ storedTo p c address value Done = moved (c .registers) (stored (c .memory) addre
 storedTo p c address value Outside = refused fault.Outside address
 
 -- the destination side is the address
-unfoldable pub storeElement : StorePlan → Context → ℕ → ℕ → Transferred
-storeElement p c i j =
+unfoldable pub storeValue : StorePlan → Context → ℕ → ℕ → Transferred
+storeValue p c j value =
     let address = addressAt (p .sides .destination .place) (p .offset) (p .width) (c .registers) j in
-    let value = getD (c .registers) (registerAt (p .sides .source .place) i) 0 in
     whereAligned address (bytesOf (p .width))
     (storedTo p c address value (storeAnswer (c .memory) address (bytesOf (p .width))))
 
+unfoldable pub storeElement : StorePlan → Context → ℕ → ℕ → Transferred
+storeElement p c i j = storeValue p c j (getD (c .registers) (registerAt (p .sides .source .place) i) 0)
+
+-- zero bytes of the access width
+unfoldable pub storeZero : StorePlan → Context → ℕ → ℕ → Transferred
+storeZero p c i j = storeValue p c j 0
+
 unfoldable pub storeUnit : StorePlan → Context → Outcome Answer Context
-storeUnit p c = transferUnit (p .sides) 4 (storeElement p) c
+storeUnit p c = transferUnit (p .sides) 4 (storeElement p) (storeZero p) c

@@ -5,13 +5,12 @@ ghost use Rattle.walk_operands.specs.Place.{registerAt};
 ghost use Rattle.walk_pausable.specs.Walk.{walk};
 ghost use Rattle.walk_operations.specs.Context.{context, outcomeOf, pausing};
 ghost use Rattle.walk_accesses.specs.Loading.{addressAt, loadValue, loadUnit};
-ghost use Rattle.walk_transfers.specs.SidesReady.{SidesReady, Within};
+ghost use Rattle.walk_transfers.specs.SidesReady.{SidesReady, OfRegisters, Stands, Within};
 use crate::alignment::aligned;
 use answers::Answer;
 use memory::load::Loaded;
 use memory::load::load;
 use registers::REGISTERS;
-use registers::write_within;
 use scalar::signed::sign_extend;
 use scalar::width::Width;
 use walk_operands::place::Place;
@@ -78,31 +77,38 @@ fn load_value(memory: &[u8], address: u64, width: Width, signed: bool) -> Loaded
 impl LoadPlan {
     // One element.
     pub fn unit(self, position: Position, registers: &mut [u64; REGISTERS], memory: &[u8]) -> Ran
-        requires { ⌜ SidesReady (self .sides) × Within (self .sides .vl) position ⌝ }
+        requires { ⌜ SidesReady (self .sides) × Within (self .sides .vl) position × Stands (self .sides) position ⌝ }
+        requires registers { ⌜ OfRegisters (self .sides .destination) ⌝ }
         ensures { λ r. ⌜
             (let start = context (now (registers .entry)) (now (memory .entry)) position in
             outcomeOf r (now (registers .exit)) (now (memory .entry)) ≡ loadUnit self start)
             ⌝ }
     {
         let sides = self.sides;
+        let mut i = 0;
+        let mut j = 0;
+        let mut value = 0;
         match sides.find(position) {
-            Pair::End => position.ended(4),
-            Pair::Found(i, j) => {
+            Pair::End => return position.ended(4),
+            Pair::Found(a, b) => {
                 let width = self.width;
-                let address = address_at(sides.source.place, self.offset, width, registers, i);
+                let address = address_at(sides.source.place, self.offset, width, registers, a);
                 if !aligned(address, width) {
-                    return position.faulted(Fault::Misaligned, address, i, j);
+                    return position.faulted(Fault::Misaligned, address, a, b);
                 }
                 match load_value(memory, address, width, self.signed) {
-                    Loaded::Value(value) => {
-                        let to = sides.destination.place.at(j);
-                        write_within(registers, to, value);
-                        sides.after(position, 4, i, j)
-                    }
-                    Loaded::Outside => position.faulted(Fault::Outside, address, i, j),
+                    Loaded::Value(loaded) => value = loaded,
+                    Loaded::Outside => return position.faulted(Fault::Outside, address, a, b),
                 }
+                i = a;
+                j = b;
+            }
+            Pair::Zeroed(a, b) => {
+                i = a;
+                j = b;
             }
         }
+        sides.put(position, 4, registers, i, j, value)
     }
 
     // At most as many elements as allowed.
@@ -114,13 +120,20 @@ impl LoadPlan {
         memory: &[u8],
     ) -> Ran
         requires { ⌜ SidesReady (self .sides) × Within (self .sides .vl) position ⌝ }
+        requires registers { ⌜ OfRegisters (self .sides .destination) ⌝ }
         ensures { λ r. ⌜
             (let start = context (now (registers .entry)) (now (memory .entry)) position in
             outcomeOf r (now (registers .exit)) (now (memory .entry)) ≡ walk pausing (loadUnit self) allowance start)
             ⌝ }
     {
-        let mut current = position;
         let mut remaining = allowance as usize;
+        if remaining == 0 {
+            return Ran {
+                answer: Answer::Paused,
+                position,
+            };
+        }
+        let mut current = self.sides.started(position);
         while 0 < remaining {
             let ran = self.unit(current, registers, memory);
             let answer = ran.answer;

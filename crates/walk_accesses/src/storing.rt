@@ -4,7 +4,7 @@ ghost use Rattle.memory.specs.Transfer.{storeAnswer, stored};
 ghost use Rattle.scalar.specs.Width.{bytesOf};
 ghost use Rattle.walk_pausable.specs.Walk.{walk};
 ghost use Rattle.walk_operations.specs.Context.{context, outcomeOf, pausing};
-ghost use Rattle.walk_transfers.specs.SidesReady.{SidesReady, Within};
+ghost use Rattle.walk_transfers.specs.SidesReady.{SidesReady, OfRegisters, Stands, Within};
 ghost use Rattle.walk_accesses.specs.Storing.{storeUnit};
 use crate::alignment::aligned;
 use crate::loading::address_at;
@@ -41,28 +41,43 @@ fn put(memory: &mut [u8], address: u64, width: Width, value: u64) -> Stored
 impl StorePlan {
     // One element.
     pub fn unit(self, position: Position, registers: &[u64; REGISTERS], memory: &mut [u8]) -> Ran
-        requires { ⌜ SidesReady (self .sides) × Within (self .sides .vl) position ⌝ }
+        requires { ⌜ SidesReady (self .sides) × Within (self .sides .vl) position × Stands (self .sides) position ⌝ }
+        requires registers { ⌜ OfRegisters (self .sides .source) ⌝ }
         ensures { λ r. ⌜
             (let start = context (now (registers .entry)) (now (memory .entry)) position in
             outcomeOf r (now (registers .entry)) (now (memory .exit)) ≡ storeUnit self start)
             ⌝ }
     {
         let sides = self.sides;
+        let mut i = 0;
+        let mut j = 0;
+        let mut zeroed = false;
         match sides.find(position) {
-            Pair::End => position.ended(4),
-            Pair::Found(i, j) => {
-                let width = self.width;
-                let address = address_at(sides.destination.place, self.offset, width, registers, j);
-                // Before the test: two instructions less on RV64.
-                let value = registers[sides.source.place.at(i)];
-                if !aligned(address, width) {
-                    return position.faulted(Fault::Misaligned, address, i, j);
-                }
-                match put(memory, address, width, value) {
-                    Stored::Done => sides.after(position, 4, i, j),
-                    Stored::Outside => position.faulted(Fault::Outside, address, i, j),
-                }
+            Pair::End => return position.ended(4),
+            Pair::Found(a, b) => {
+                i = a;
+                j = b;
             }
+            Pair::Zeroed(a, b) => {
+                i = a;
+                j = b;
+                zeroed = true;
+            }
+        }
+        let width = self.width;
+        let address = address_at(sides.destination.place, self.offset, width, registers, j);
+        // Before the test: two instructions less on RV64.
+        let value = if zeroed {
+            0
+        } else {
+            registers[sides.source.register(i)]
+        };
+        if !aligned(address, width) {
+            return position.faulted(Fault::Misaligned, address, i, j);
+        }
+        match put(memory, address, width, value) {
+            Stored::Done => sides.after(position, 4, i, j),
+            Stored::Outside => position.faulted(Fault::Outside, address, i, j),
         }
     }
 
@@ -75,13 +90,20 @@ impl StorePlan {
         memory: &mut [u8],
     ) -> Ran
         requires { ⌜ SidesReady (self .sides) × Within (self .sides .vl) position ⌝ }
+        requires registers { ⌜ OfRegisters (self .sides .source) ⌝ }
         ensures { λ r. ⌜
             (let start = context (now (registers .entry)) (now (memory .entry)) position in
             outcomeOf r (now (registers .entry)) (now (memory .exit)) ≡ walk pausing (storeUnit self) allowance start)
             ⌝ }
     {
-        let mut current = position;
         let mut remaining = allowance as usize;
+        if remaining == 0 {
+            return Ran {
+                answer: Answer::Paused,
+                position,
+            };
+        }
+        let mut current = self.sides.started(position);
         while 0 < remaining {
             let ran = self.unit(current, registers, memory);
             let answer = ran.answer;

@@ -23,7 +23,7 @@ use Rattle.walk_pausable.specs.Walk.{walk}
 use Rattle.walk_pausable.specs.Call.{begun}
 use Rattle.bits.proofs.Booleans.{and-left, and-right}
 use Rattle.walk_operations.specs.Context.{Context, pausing}
-use Rattle.walk_transfers.specs.SidesReady.{SidesReady, Within}
+use Rattle.walk_transfers.specs.SidesReady.{SidesReady, OfRegisters, Within}
 use Rattle.walk_operations.specs.declared.position.Position.{Position}
 use Rattle.walk_operations.specs.declared.operation.OperationPlan.{OperationPlan}
 use Rattle.walk_transfers.specs.declared.sides.Sides.{Sides}
@@ -115,24 +115,24 @@ module _
 
     pub move-ready :
         {w : MoveWord} {made : Sides} → word ≡ Move w → made ≡ movePlan vl registers w →
-        SidesReady made × Within (made .vl) position
+        (SidesReady made × Within (made .vl) position) × (OfRegisters (made .source) × OfRegisters (made .destination))
     unfolding movePlan
     move-ready {w = w} is e =
         let f = two-fit vl (w .destination) (w .source) (fit (Move w) is) in
-        rw e (record { most = asked .0; source = f .1; destination = f .0 }, asked .1)
+        rw e ((record { most = asked .0; source = f .1; destination = f .0 }, asked .1), (λ v. v, λ v. v))
 
     pub load-ready :
         {w : LoadWord} {made : LoadPlan} → word ≡ Load w → made ≡ loadPlan vl registers w →
-        SidesReady (made .sides) × Within (made .sides .vl) position
+        (SidesReady (made .sides) × Within (made .sides .vl) position) × OfRegisters (made .sides .destination)
     unfolding loadPlan
     load-ready {w = w} is e =
         let f = two-fit vl (w .destination) (w .address) (fit (Load w) is) in
-        rw e (record { most = asked .0; source = f .1; destination = f .0 }, asked .1)
+        rw e ((record { most = asked .0; source = f .1; destination = f .0 }, asked .1), λ v. v)
 
     pub store-ready :
         {w : StoreWord} {made : StorePlan} → word ≡ Store w → made ≡ storePlan vl registers w →
-        SidesReady (made .sides) × Within (made .sides .vl) position
+        (SidesReady (made .sides) × Within (made .sides .vl) position) × OfRegisters (made .sides .source)
     unfolding storePlan
     store-ready {w = w} is e =
         let f = two-fit vl (w .«data») (w .address) (fit (Store w) is) in
-        rw e (record { most = asked .0; source = f .0; destination = f .1 }, asked .1)
+        rw e ((record { most = asked .0; source = f .0; destination = f .1 }, asked .1), λ v. v)

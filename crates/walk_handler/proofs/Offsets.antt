@@ -20,7 +20,7 @@ use Rattle.walk_operations.specs.Context.{Context, outcomeOf, ended, pausing}
 use Rattle.walk_operations.specs.Operation.{goOn, afterOn, positionAfter, operationUnit}
 use Rattle.walk_transfers.specs.SidesReady.{Within}
 use Rattle.walk_transfers.specs.Moving.{moveUnit}
-use Rattle.walk_transfers.proofs.TransferLaws.{unit-within}
+use Rattle.walk_transfers.proofs.TransferLaws.{unit-kept}
 use Rattle.walk_accesses.specs.Loading.{loadUnit}
 use Rattle.walk_accesses.specs.Storing.{storeUnit}
 use Rattle.walk_plans.specs.Plan.{operationPlan, movePlan, loadPlan, storePlan}
@@ -65,13 +65,13 @@ module _ (vl : ℕ) (registers : List ℕ) (c : Context) (w : Within vl (c .posi
       (unfold operationPlan in operation-within (operationPlan vl registers o) c w)
   plan-within (Move m) plan e =
       rw (served-plan vl (Move m) (move (movePlan vl registers m)) plan e)
-      (unfold movePlan moveUnit in unit-within (movePlan vl registers m) 2 _ c w _ refl)
+      (unfold movePlan moveUnit in unit-kept (movePlan vl registers m) 2 _ _ c w _ refl .within)
   plan-within (Load l) plan e =
       rw (served-plan vl (Load l) (load (loadPlan vl registers l)) plan e)
-      (unfold loadPlan loadUnit in unit-within (loadPlan vl registers l .sides) 4 _ c w _ refl)
+      (unfold loadPlan loadUnit in unit-kept (loadPlan vl registers l .sides) 4 _ _ c w _ refl .within)
   plan-within (Store s) plan e =
       rw (served-plan vl (Store s) (store (storePlan vl registers s)) plan e)
-      (unfold storePlan storeUnit in unit-within (storePlan vl registers s .sides) 4 _ c w _ refl)
+      (unfold storePlan storeUnit in unit-kept (storePlan vl registers s .sides) 4 _ _ c w _ refl .within)
   plan-within Unknown plan e = let z : _≡_ {A = ℕ} 0 1 = cc in absurd (omega arith)
 
 pub handled-within :

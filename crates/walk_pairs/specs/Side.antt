@@ -10,7 +10,7 @@ start s offset = cond (s .walks) offset 0
 
 -- each walking side goes up by one
 unfoldable pub next : Side → ℕ → ℕ
-next s i = cond (s .walks) (i + 1) 0
+next s i = cond (s .walks) (i + 1) i
 
 -- whether a walking side has reached VL
 unfoldable pub past : Side → ℕ → ℕ → Bool

@@ -1,7 +1,10 @@
 // The two sides of a move, a load or a store, and the pair of positions that they stand at.
 ghost use mathlib.Core.Path.{_≡_};
 ghost use Prim.Native.Nat.{_<_, _≤_};
-ghost use Rattle.walk_pairs.specs.Side.{start, next, past};
+ghost use Rattle.walk_operands.specs.Place.{registerAt};
+ghost use mathlib.Core.Bool.{true};
+ghost use mathlib.Core.Logic.{_⊎_};
+ghost use Rattle.walk_pairs.specs.Side.{start, next};
 ghost use Rattle.walk_pairs.specs.Pair.{pairFrom};
 use walk_operands::mask::Mask;
 use walk_operands::place::Place;
@@ -13,8 +16,10 @@ pub struct Side {
     pub mask: Mask,
 }
 
+// `Zeroed` where a side with zeroing is off.
 pub enum Pair {
     Found(usize, usize),
+    Zeroed(usize, usize),
     End,
 }
 
@@ -31,45 +36,69 @@ impl Side {
         requires { ⌜ i < 64 ⌝ }
         ensures { λ r. ⌜ r ≡ next self i ⌝ }
     {
-        if self.walks { i + 1 } else { 0 }
+        if self.walks { i + 1 } else { i }
     }
 
-    // Whether a side has reached VL.
-    pub fn past(self, vl: usize, i: usize) -> bool
-        ensures { λ r. ⌜ r ≡ past self vl i ⌝ }
+    // The register of a position, where the operand is a vector or the position 0.
+    pub fn register(self, i: usize) -> usize
+        requires { ⌜ (registerAt (self .place) i < 128) × (i ≡ 0 ⊎ self .place .vector ≡ true) ⌝ }
+        ensures { λ r. ⌜ r ≡ registerAt (self .place) i ⌝ }
     {
-        if !self.walks {
-            return false;
-        }
-        vl <= i
+        self.place.register + i
     }
 }
 
-// The next position that is on, on both sides.
+// The next position that is on, on both sides; a side with zeroing isn't skipped.
 pub fn find_pair(source: Side, destination: Side, vl: usize, i0: usize, j0: usize) -> Pair
     requires { ⌜ (vl ≤ 64) × (i0 < vl) × (j0 < vl) ⌝ }
     ensures { λ r. ⌜ r ≡ pairFrom source destination vl i0 j0 ⌝ }
 {
     let mut i = i0;
     let mut j = j0;
+    let mut zeroed = false;
     'pair: loop {
-        while source.walks {
-            if source.mask.is_on(i) {
-                break;
-            }
-            i += 1;
-            if i >= vl {
-                break 'pair Pair::End;
+        // Most often both are on.
+        if source.mask.is_on(i) {
+            if destination.mask.is_on(j) {
+                break Pair::Found(i, j);
             }
         }
-        while destination.walks {
-            if destination.mask.is_on(j) {
-                break;
+        if source.walks {
+            if !source.mask.is_on(i) {
+                if source.mask.zeroing {
+                    zeroed = true;
+                } else {
+                    loop {
+                        i += 1;
+                        if i >= vl {
+                            break 'pair Pair::End;
+                        }
+                        if source.mask.is_on(i) {
+                            break;
+                        }
+                    }
+                }
             }
-            j += 1;
-            if j >= vl {
-                break 'pair Pair::End;
+        }
+        if destination.walks {
+            if !destination.mask.is_on(j) {
+                if destination.mask.zeroing {
+                    zeroed = true;
+                } else {
+                    loop {
+                        j += 1;
+                        if j >= vl {
+                            break 'pair Pair::End;
+                        }
+                        if destination.mask.is_on(j) {
+                            break;
+                        }
+                    }
+                }
             }
+        }
+        if zeroed {
+            break Pair::Zeroed(i, j);
         }
         break Pair::Found(i, j);
     }

@@ -16,6 +16,11 @@ module _ {A S : Type 0} (answers : Pausing A) (unit : S → Outcome A S) where
   walk-step zero s h = absurd (omega arith)
   walk-step (suc n) s h = rw sub-one
 
+  -- a walk that has a unit left goes by what its first unit does
+  pub walk-same :
+      (n : ℕ) (s t : S) → 0 < n → unit s ≡ unit t → walk answers unit n s ≡ walk answers unit n t
+  walk-same n s t h e = walk-step n s h ∙ rw e (sym (walk-step n t h))
+
   -- a unit that paused
   pub walk-more :
       (n : ℕ) (s : S) (o : Outcome A S) → 0 < n → o ≡ unit s → Paused answers o →

@@ -1,1 +1,3 @@
+pub mod Standing
+pub mod After
 pub mod TransferLaws

@@ -16,5 +16,9 @@ moveElement s c i j =
     (getD (c .registers) (registerAt (s .source .place) i) 0))
     (c .memory)
 
+-- an off source position supplies 0, and an off destination position receives it
+unfoldable pub zeroElement : Sides → Context → ℕ → ℕ → Transferred
+zeroElement s c i j = moved (written (c .registers) (registerAt (s .destination .place) j) 0) (c .memory)
+
 unfoldable pub moveUnit : Sides → Context → Outcome Answer Context
-moveUnit s c = transferUnit s 2 (moveElement s) c
+moveUnit s c = transferUnit s 2 (moveElement s) (zeroElement s) c

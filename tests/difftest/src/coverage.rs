@@ -1,6 +1,8 @@
 //! What the cases have reached: each call with each answer it can give, and the situations worth a test.
 
 use crate::accesses;
+use crate::walked::Walked;
+use crate::zeroing;
 use difftest::calls::{answer, Call, Outcome};
 use difftest::decode::{decode, Instruction, Operation, Second};
 use difftest::machine::Machine;
@@ -106,15 +108,14 @@ impl Coverage {
             self.sizes[made.size.min(101)] += 1;
             let instruction = decode(word).expect("a served word");
             self.add(&operand_situations(made, &instruction));
-            match instruction {
-                Instruction::Operation(operation) => {
-                    self.add(&operation_situations(made, &instruction));
-                    self.add(&division_situations(made, &operation));
-                }
-                _ => {
-                    self.add(&transfer_situations(made, &instruction));
-                    self.add(&accesses::situations(made, &instruction));
-                }
+            if let Some(walked) = Walked::of(made, &instruction) {
+                self.add(&transfer_situations(made, &walked));
+                self.add(&accesses::situations(made, &instruction, &walked));
+                self.add(&zeroing::situations(made, &instruction, &walked));
+            }
+            if let Instruction::Operation(operation) = instruction {
+                self.add(&operation_situations(made, &instruction));
+                self.add(&division_situations(made, &operation));
             }
         }
         if let (Some(word), 2) = (word(made.call), answer) {
@@ -286,27 +287,16 @@ fn unknown_situations(word: u32) -> Vec<Seen> {
     ]
 }
 
-/// The register numbers of the sides, source first, and whether each walks.
-fn sides(machine: &Machine, instruction: &Instruction) -> [(u32, bool); 2] {
-    let vector = |key| operand(machine, key).is_vector();
-    match instruction {
-        Instruction::Move(it) => [(it.rs2, vector(it.rs2)), (it.rd, vector(it.rd))],
-        Instruction::Load(it) => [(it.rs1, true), (it.rd, vector(it.rd))],
-        Instruction::Store(it) => [(it.rs2, vector(it.rs2)), (it.rs1, true)],
-        Instruction::Operation(_) => unreachable!("an operation has no sides"),
-    }
-}
-
-fn transfer_situations(made: &Made, instruction: &Instruction) -> Vec<Seen> {
-    let sides = sides(made.before, instruction);
-    let offsets = [made.before.source, made.before.destination];
-    let ran = made.after != made.before;
-    let off = |i: usize| sides[i].1 && !mask(made.before, sides[i].0).on(offsets[i]);
+fn transfer_situations(made: &Made, walked: &Walked) -> Vec<Seen> {
+    let (source, destination) = (&walked.transfer.source, &walked.transfer.destination);
+    let skips = walked.first().is_some_and(|pair| {
+        source.walks && pair.source > made.before.source
+            || destination.walks && pair.destination > made.before.destination
+    });
     vec![
-        ("transfer with zeroing set", ran && sides.iter().any(|&(key, walks)| walks && mask(made.before, key).zeroing)),
-        ("transfer on which both sides walk", ran && sides[0].1 && sides[1].1),
-        ("transfer that skips", ran && (off(0) || off(1))),
-        ("transfer that ends with nothing done", ran && made.outcome.answer == 0 && made.kept()),
+        ("transfer on which both sides walk", walked.first().is_some() && source.walks && destination.walks),
+        ("transfer that skips", skips),
+        ("transfer that ends with nothing done", made.outcome.answer == answer::DONE && walked.done.is_empty()),
     ]
 }
 

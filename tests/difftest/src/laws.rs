@@ -3,7 +3,8 @@
 use crate::coverage::Made;
 use difftest::calls::{answer, Call};
 
-fn allowance(call: &Call) -> Option<u64> {
+/// How many units a run is allowed; none for another call.
+pub fn allowance(call: &Call) -> Option<u64> {
     match *call {
         Call::Run { allowance, .. } => Some(u64::from(allowance)),
         Call::Step { .. } => Some(1),

@@ -10,7 +10,9 @@ mod machines;
 mod pair;
 mod random;
 mod settings;
+mod walked;
 mod words;
+mod zeroing;
 
 use coverage::Coverage;
 use pair::Bench;

@@ -1,28 +1,10 @@
 //! The alignment rule, on the model: which accesses are misaligned, what comes first, and what a call leaves behind.
 
+mod common;
+
+use common::{load, misaligned, outside, store, ALL, DONE, PAUSED};
 use difftest::calls::{call, Call, Outcome};
 use difftest::machine::Machine;
-
-const ALL: u16 = 65535;
-const DONE: Outcome = Outcome { answer: 0, value: 0 };
-const PAUSED: Outcome = Outcome { answer: 1, value: 0 };
-
-fn outside(address: u64) -> Outcome {
-    Outcome { answer: 5, value: address }
-}
-
-fn misaligned(address: u64) -> Outcome {
-    Outcome { answer: 9, value: address }
-}
-
-/// A load of funct3 into x5, or a store of x5, at x6 + immediate.
-fn load(funct3: u32, immediate: u32) -> u32 {
-    immediate << 20 | 6 << 15 | funct3 << 12 | 5 << 7 | 0x03
-}
-
-fn store(funct3: u32, immediate: u32) -> u32 {
-    immediate >> 5 << 25 | 5 << 20 | 6 << 15 | funct3 << 12 | (immediate & 31) << 7 | 0x23
-}
 
 /// A word on a fresh machine, whose x6 is the base.
 fn scalar(word: u32, base: u64, size: usize) -> Outcome {
@@ -114,7 +96,7 @@ fn a_misaligned_store_writes_nothing() {
 }
 
 #[test]
-fn a_position_that_is_off_is_not_tested() {
+fn a_position_that_is_skipped_is_not_tested() {
     let mut machine = vector([1, 8, 3, 12]);
     machine.predicate_table[0] = 0x3106;
     machine.registers[3] = 0b1010;

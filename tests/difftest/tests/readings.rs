@@ -1,5 +1,8 @@
 //! The bench readings P1 to P12 of the requirements, and why demand 3 has its premise, on the model.
 
+mod common;
+
+use common::{ALL, DONE, PAUSED};
 use difftest::calls::{call, Call, Outcome};
 use difftest::machine::Machine;
 use difftest::tables::enabled;
@@ -7,9 +10,6 @@ use difftest::tables::enabled;
 const ADD: u32 = 0x007302B3; // ADD x5, x6, x7
 const MOVE: u32 = 0x829A; // C.MV x5, x6
 const LOAD: u32 = 0x00833283; // LD x5, 8(x6)
-const ALL: u16 = 65535;
-const DONE: Outcome = Outcome { answer: 0, value: 0 };
-const PAUSED: Outcome = Outcome { answer: 1, value: 0 };
 
 /// The machine of the readings before its run: x5 is the vector 40.., x6 the vector 50.., VL is 4.
 fn base() -> Machine {
