@@ -1,9 +1,11 @@
+#![tactic(auto)]
+
 // What a call says.
 ghost use Rattle.std.specs.Prelude.{◌≡◌};
 ghost use Rattle.answers.specs.Answer.{number_of, value_of, accepts, pauses};
 ghost use Rattle.answers.specs.Verdict.{valid, verdict};
 
-#[derive(Drop)]
+#[derive(Clone, Copy)]
 pub enum Answer {
     Done(u64),
     Paused,
@@ -53,12 +55,14 @@ impl Answer {
         }
     }
 
+    #[tactic(auto, unfolding(crate::specs::Answer::accepts))]
     pub fn accepts(self) -> bool
         ensures { result ≡ accepts self }
     {
         self.number() == 0
     }
 
+    #[tactic(auto, unfolding(crate::specs::Answer::pauses))]
     pub fn pauses(self) -> bool
         ensures { result ≡ pauses self }
     {
@@ -77,6 +81,7 @@ pub fn valid(taken: bool) -> Answer
 }
 
 // What a setting or reading call says, by its two tests and its own answer.
+#[tactic(auto, unfolding(crate::specs::Verdict::verdict))]
 pub fn verdict(shaped: bool, exists: bool, own: Answer) -> Answer
     ensures { result ≡ verdict shaped exists own }
 {

@@ -1,1 +1,3 @@
+#![tactic(auto)]
+
 // Bits of words, members of lists, and tests: definitions in specs/, laws in proofs/. No code.

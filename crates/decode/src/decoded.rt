@@ -4,7 +4,7 @@ use scalar::width::Width;
 
 // What a register number of an instruction names: itself, or the real register of its entry. Whether an operand is a
 // vector is asked at each element, and cheapest of the first case.
-#[derive(Drop)]
+#[derive(Clone, Copy)]
 pub enum Operand {
     Vector(u8),
     Plain(u8),
@@ -13,20 +13,20 @@ pub enum Operand {
 
 // An operand with the width of the register entry that holds for it (0 where none does)
 // and the word of the predicate entry that holds for it (0, the empty entry, where none does).
-#[derive(Drop)]
+#[derive(Clone, Copy)]
 pub struct ResolvedOperand {
     pub operand: Operand,
     pub width: u8,
     pub predicate: u16,
 }
 
-#[derive(Drop)]
+#[derive(Clone, Copy)]
 pub enum SecondOperand {
     Register(ResolvedOperand),
     Immediate(u64),
 }
 
-#[derive(Drop)]
+#[derive(Clone, Copy)]
 pub struct OperationWord {
     pub operator: Operator,
     pub destination: ResolvedOperand,
@@ -34,13 +34,13 @@ pub struct OperationWord {
     pub second: SecondOperand,
 }
 
-#[derive(Drop)]
+#[derive(Clone, Copy)]
 pub struct MoveWord {
     pub destination: ResolvedOperand,
     pub source: ResolvedOperand,
 }
 
-#[derive(Drop)]
+#[derive(Clone, Copy)]
 pub struct LoadWord {
     pub destination: ResolvedOperand,
     pub address: ResolvedOperand,
@@ -49,7 +49,7 @@ pub struct LoadWord {
     pub signed: bool,
 }
 
-#[derive(Drop)]
+#[derive(Clone, Copy)]
 pub struct StoreWord {
     pub data: ResolvedOperand,
     pub address: ResolvedOperand,
@@ -59,7 +59,7 @@ pub struct StoreWord {
 
 // The kinds that a word is read into. Of four orders that were counted, this one gives the loops of x86-64 the fewest
 // instructions.
-#[derive(Drop)]
+#[derive(Clone, Copy)]
 pub enum Decoded {
     Unknown,
     Store(StoreWord),

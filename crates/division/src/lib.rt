@@ -9,7 +9,7 @@ use scalar::signed;
 use scalar::signedness::Signedness;
 use scalar::width::Width;
 
-#[derive(Drop)]
+#[derive(Clone, Copy)]
 pub struct Division {
     pub quotient: u64,
     pub remainder: u64,

@@ -8,7 +8,7 @@ use scalar::width::Width;
 
 // The forms that differ in their operands. The four of operations differ in the second one. Those with one source
 // register stand first: a call then has 40 instructions less on RV64 than with `Register` first.
-#[derive(Drop)]
+#[derive(Clone, Copy)]
 pub enum Form {
     Load(Width),
     LoadUnsigned(Width),

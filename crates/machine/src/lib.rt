@@ -16,7 +16,7 @@ pub mod setting;
 // The two tables stand last: all before them is what one room has of its own. C's layout is for the benchmark, which
 // hands a machine over by value (crate test_bench); the C interface lends arrays, and does not use it.
 #[repr(C)]
-#[derive(Drop)]
+#[derive(Clone, Copy)]
 pub struct Machine {
     pub registers: [u64; REGISTERS],
     pub pc: u64,
@@ -26,7 +26,7 @@ pub struct Machine {
 }
 
 // An answer, and the machine after the call.
-#[derive(Drop)]
+#[derive(Clone, Copy)]
 pub struct Reply {
     pub answer: Answer,
     pub machine: Machine,

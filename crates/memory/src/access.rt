@@ -5,7 +5,7 @@ ghost use Rattle.memory.specs.Access.{located};
 use scalar::width::Width;
 
 // Where an access begins, if memory has it.
-#[derive(Drop)]
+#[derive(Clone, Copy)]
 pub enum Access {
     Inside(usize),
     Outside,

@@ -1,3 +1,5 @@
+#![tactic(auto)]
+
 // Little-endian accesses of 1, 2, 4 and 8 bytes to a lent memory, at any address.
 pub mod access;
 pub mod load;

@@ -6,7 +6,7 @@ use crate::access::{Access, locate};
 use crate::read::read;
 use scalar::width::Width;
 
-#[derive(Drop)]
+#[derive(Clone, Copy)]
 pub enum Loaded {
     Value(u64),
     Outside,

@@ -6,7 +6,7 @@ use crate::access::{Access, locate};
 use crate::write::write;
 use scalar::width::Width;
 
-#[derive(Drop)]
+#[derive(Clone, Copy)]
 pub enum Stored {
     Done,
     Outside,

@@ -1,3 +1,5 @@
+#![tactic(auto)]
+
 // The register file, lent as an array.
 ghost use Rattle.std.specs.Prelude.{◌<◌, ◌≡◌};
 ghost use Rattle.registers.specs.Written.{written};
@@ -5,6 +7,7 @@ ghost use Rattle.registers.specs.Written.{written};
 pub const REGISTERS: usize = 128;
 
 // Writes a register that exists, in place. Register 0 stays 0.
+#[tactic(auto, unfolding(crate::specs::Written::written))]
 pub fn write_within(registers: &mut [u64; REGISTERS], index: usize, value: u64)
     requires { index < 128 }
     ensures { registers.new ≡ written registers.old index value }
@@ -15,6 +18,7 @@ pub fn write_within(registers: &mut [u64; REGISTERS], index: usize, value: u64)
 }
 
 // Writes a register in place, if it exists.
+#[tactic(auto, unfolding(crate::specs::Written::written))]
 pub fn write(registers: &mut [u64; REGISTERS], index: usize, value: u64)
     ensures { registers.new ≡ written registers.old index value }
 {

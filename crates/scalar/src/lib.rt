@@ -1,3 +1,5 @@
+#![tactic(auto)]
+
 // The operators of RV64I and RV64M, and the 64-bit values that they work on.
 
 // The width of a memory access.

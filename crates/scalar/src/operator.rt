@@ -1,5 +1,5 @@
 // The register-register operations of RV64I, which the immediate forms share, and those of RV64M.
-#[derive(Drop)]
+#[derive(Clone, Copy)]
 pub enum Operator {
     Add,
     Sub,

@@ -48,6 +48,7 @@ pub fn of_i64(z: i64) -> u64
 }
 
 // Whether a is below b, both read as signed.
+#[tactic(auto, unfolding(crate::specs::Signed::signed_less))]
 pub fn signed_less(a: u64, b: u64) -> bool
     ensures { result ≡ signed_less a b }
 {
@@ -55,6 +56,7 @@ pub fn signed_less(a: u64, b: u64) -> bool
 }
 
 // a shifted right by the low 6 bits of b, copying the sign bit.
+#[tactic(auto, unfolding(crate::specs::Signed::arithmetic_shift))]
 pub fn arithmetic_shift(a: u64, b: u64) -> u64
     ensures { result ≡ arithmetic_shift w64 a (b % 64) }
 {
@@ -62,6 +64,7 @@ pub fn arithmetic_shift(a: u64, b: u64) -> u64
 }
 
 // The low word of a shifted right by the low 5 bits of b, copying its sign bit, and sign-extended.
+#[tactic(auto, unfolding(crate::specs::Signed::arithmetic_shift))]
 pub fn arithmetic_shift_word(a: u64, b: u64) -> u64
     ensures { result ≡ sign_extended Word (arithmetic_shift w32 (low_word a) (b % 32)) }
 {
@@ -69,6 +72,7 @@ pub fn arithmetic_shift_word(a: u64, b: u64) -> u64
 }
 
 // The low bits of `value`, one access wide, read as a signed number and given 64 bits.
+#[tactic(auto, unfolding(crate::specs::Signed::sign_extended))]
 pub fn sign_extend(width: Width, value: u64) -> u64
     ensures { result ≡ sign_extended width value }
 {

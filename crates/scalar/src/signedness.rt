@@ -1,5 +1,5 @@
 // How the bits of a register are interpreted.
-#[derive(Drop)]
+#[derive(Clone, Copy)]
 pub enum Signedness {
     Signed,
     Unsigned,

@@ -2,7 +2,7 @@ ghost use Rattle.std.specs.Prelude.{◌≡◌};
 ghost use Rattle.scalar.specs.Width.{bytes_of};
 
 // The widths of an access: 8, 4, 2 or 1 bytes.
-#[derive(Drop)]
+#[derive(Clone, Copy)]
 pub enum Width {
     Double,
     Word,

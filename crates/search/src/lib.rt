@@ -5,14 +5,14 @@ ghost use Rattle.search.specs.Search.{entry_answers, held_entry, FindsEnabled};
 use tables::ENTRIES;
 use tables::enabled::{Range, enabled_range};
 
-#[derive(Drop)]
+#[derive(Clone, Copy)]
 pub enum Table {
     Register,
     Predicate,
 }
 
 // The index of the entry that holds, if one does.
-#[derive(Drop)]
+#[derive(Clone, Copy)]
 pub enum Held {
     At(usize),
     Nothing,

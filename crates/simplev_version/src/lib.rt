@@ -1,3 +1,5 @@
+#![tactic(auto)]
+
 // The version of the interface, which the archive says by itself.
 ghost use Rattle.std.specs.Prelude.{◌≡◌};
 ghost use Rattle.simplev_version.specs.Version.{version};

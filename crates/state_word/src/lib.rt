@@ -4,7 +4,7 @@ ghost use Rattle.state_word.specs.State.{of_word, word_of, cut, good_word, with_
 
 // C's layout is for the benchmark alone, as that of `Machine`, of which it is a part.
 #[repr(C)]
-#[derive(Drop)]
+#[derive(Clone, Copy)]
 pub struct State {
     pub mvl: u32,
     pub vl: u32,

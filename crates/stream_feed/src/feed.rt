@@ -7,7 +7,7 @@ use machine::Machine;
 use stream_records::reader::{Event, Reader};
 use stream_records::record::Record;
 
-#[derive(Drop)]
+#[derive(Clone, Copy)]
 pub enum Text {
     // How many bytes were written.
     Written(usize),
@@ -16,14 +16,14 @@ pub enum Text {
 }
 
 // What was written, and the reader and the machine after it.
-#[derive(Drop)]
+#[derive(Clone, Copy)]
 pub struct Fed {
     pub text: Text,
     pub reader: Reader,
     pub machine: Machine,
 }
 
-#[derive(Drop)]
+#[derive(Clone, Copy)]
 pub struct Applied {
     machine: Machine,
     at: usize,

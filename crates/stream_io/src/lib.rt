@@ -12,7 +12,7 @@ use stream_feed::feed::{Text, feed};
 use stream_feed::finish::finish;
 use stream_records::reader::Reader;
 
-#[derive(Drop)]
+#[derive(Clone, Copy)]
 pub enum Sent {
     // How many bytes of the output are written.
     Upto(u64),
@@ -21,7 +21,7 @@ pub enum Sent {
 }
 
 // What the runner has after a turn.
-#[derive(Drop)]
+#[derive(Clone, Copy)]
 pub struct Turn {
     pub reader: Reader,
     pub machine: Machine,

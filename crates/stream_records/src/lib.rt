@@ -1,3 +1,5 @@
+#![tactic(auto)]
+
 // Record streams: one byte of kind, then a body whose length the kind fixes.
 
 // A number of some bytes.

@@ -5,7 +5,7 @@ ghost use Rattle.stream_records.specs.Reader.{nothing_taken, Ready, Taking, Find
 use crate::record::{Next, Record, next_record};
 
 // The bytes of a record that has not ended, and where in the stream it begins.
-#[derive(Drop)]
+#[derive(Clone, Copy)]
 pub struct Reader {
     pub kept: [u8; 11],
     pub length: usize,
@@ -16,20 +16,20 @@ pub struct Reader {
     pub runs: bool,
 }
 
-#[derive(Drop)]
+#[derive(Clone, Copy)]
 pub enum Event {
     Whole(Record),
     Nothing,
 }
 
-#[derive(Drop)]
+#[derive(Clone, Copy)]
 pub struct Taken {
     pub event: Event,
     pub reader: Reader,
 }
 
 // The first record that ended in a piece, and the place after it.
-#[derive(Drop)]
+#[derive(Clone, Copy)]
 pub struct Found {
     pub event: Event,
     pub reader: Reader,

@@ -3,7 +3,7 @@ ghost use Rattle.stream_records.specs.Record.{layout_of, served_layout, record_o
 
 use crate::field::field;
 
-#[derive(Drop)]
+#[derive(Clone, Copy)]
 pub enum Record {
     // An index and an entry's word.
     RegisterEntry(u8, u16),
@@ -18,7 +18,7 @@ pub enum Record {
 }
 
 // What is at a place of some bytes.
-#[derive(Drop)]
+#[derive(Clone, Copy)]
 pub enum Next {
     // A record, and the place after it.
     Whole(Record, usize),
@@ -31,7 +31,7 @@ pub enum Next {
 }
 
 // How many bytes the two fields of a kind's body have.
-#[derive(Drop)]
+#[derive(Clone, Copy)]
 pub struct Layout {
     pub first: usize,
     pub second: usize,

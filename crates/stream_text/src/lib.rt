@@ -1,3 +1,5 @@
+#![tactic(auto)]
+
 // Numbers and lines as text, written into bytes that are lent.
 
 // A number in decimal digits.

@@ -3,7 +3,7 @@ ghost use Rattle.std.specs.Prelude.{◌≡◌};
 ghost use Rattle.tables.specs.Enabled.{enabled_range};
 
 // The entries from `first` on and below `end`.
-#[derive(Drop)]
+#[derive(Clone, Copy)]
 pub struct Range {
     pub first: usize,
     pub end: usize,

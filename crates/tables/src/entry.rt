@@ -4,7 +4,7 @@ ghost use Rattle.tables.specs.Entry.{register_entry, predicate_entry, all_bit0_c
 
 use crate::ENTRIES;
 
-#[derive(Drop)]
+#[derive(Clone, Copy)]
 pub struct RegisterEntry {
     pub vector: bool,
     pub register: u8,
@@ -13,7 +13,7 @@ pub struct RegisterEntry {
     pub key: u8,
 }
 
-#[derive(Drop)]
+#[derive(Clone, Copy)]
 pub struct PredicateEntry {
     pub key: u8,
     pub zeroing: bool,
@@ -51,6 +51,7 @@ impl PredicateEntry {
 }
 
 // Whether bit 0 of every predicate entry is zero.
+#[tactic(auto, unfolding(crate::specs::Entry::clear_below))]
 pub fn all_bit0_clear(entries: &[u16; ENTRIES]) -> bool
     ensures { result ≡ all_bit0_clear entries.now }
 {

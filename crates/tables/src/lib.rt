@@ -1,3 +1,5 @@
+#![tactic(auto)]
+
 // The two tables: their entries, and what a CFG enables.
 pub mod enabled;
 pub mod entry;

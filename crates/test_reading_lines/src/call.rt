@@ -76,7 +76,7 @@ pub(crate) fn call_of(word: &[u8]) -> u64
 }
 
 // How many numbers a call takes, and the largest that the first and the second can be.
-#[derive(Drop)]
+#[derive(Clone, Copy)]
 pub struct Limits(pub u64, pub u64, pub u64);
 
 const MAX64: u64 = 18446744073709551615;

@@ -13,7 +13,7 @@ use check::same;
 // The last number in the table of answers.
 const LARGEST_ANSWER: u64 = 9;
 
-#[derive(Drop)]
+#[derive(Clone, Copy)]
 pub enum Kind {
     // The name of a reading.
     Name,
@@ -23,7 +23,7 @@ pub enum Kind {
     Damaged,
 }
 
-#[derive(Drop)]
+#[derive(Clone, Copy)]
 pub struct Line {
     pub kind: Kind,
     pub call: u64,
@@ -35,14 +35,14 @@ pub struct Line {
 }
 
 // A number read from a line, and where it ends.
-#[derive(Drop)]
+#[derive(Clone, Copy)]
 pub struct Part {
     pub number: Number,
     pub end: usize,
 }
 
 // What a call must answer, where that can be read.
-#[derive(Drop)]
+#[derive(Clone, Copy)]
 pub enum Expected {
     Pair(u64, u64),
     NoPair,

@@ -3,7 +3,7 @@ ghost use Rattle.test_reading_lines.specs.Number.{digits_after, number_of, up_to
 
 use test_vector_lines::hex::digit_of;
 
-#[derive(Drop)]
+#[derive(Clone, Copy)]
 pub enum Number {
     Value(u64),
     NotOne,

@@ -3,7 +3,7 @@ ghost use Rattle.test_reading_lines.specs.Tally.{outcome_of, tally, one_more, wi
 
 use crate::line::{Kind, Line};
 
-#[derive(Drop)]
+#[derive(Clone, Copy)]
 pub struct Tally {
     pub readings: u64,
     pub agree: u64,
@@ -14,7 +14,7 @@ pub struct Tally {
 }
 
 // What a line came to.
-#[derive(Drop)]
+#[derive(Clone, Copy)]
 pub enum Outcome {
     Name,
     Note,

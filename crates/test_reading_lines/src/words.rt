@@ -3,7 +3,7 @@ ghost use Rattle.test_reading_lines.specs.Words.{part, before, words_of, place_i
 
 use check::same;
 
-#[derive(Drop)]
+#[derive(Clone, Copy)]
 pub struct Word {
     pub start: usize,
     pub end: usize,

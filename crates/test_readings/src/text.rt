@@ -9,7 +9,7 @@ use machine::{Machine, Reply};
 use test_reading_lines::line::{Line, line_of};
 use test_reading_lines::tally::{Tally, outcome_of};
 
-#[derive(Drop)]
+#[derive(Clone, Copy)]
 struct Bench {
     machine: Machine,
     // How many bytes of the memory are lent.

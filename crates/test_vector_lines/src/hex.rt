@@ -2,7 +2,7 @@ ghost use Rattle.std.specs.Prelude.{◌≡◌, ◌+◌, ◌-◌, ◌^◌, ◌≤
 ghost use Rattle.std.proofs.Math.Seq.{slice};
 ghost use Rattle.test_vector_lines.specs.Hex.{digit_of, hex_number, Below};
 
-#[derive(Drop)]
+#[derive(Clone, Copy)]
 pub enum Number {
     Value(u64),
     NotHex,

@@ -1,3 +1,5 @@
+#![tactic(auto)]
+
 // The lines of a file of test vectors.
 
 // A number in hex digits.

@@ -5,7 +5,7 @@ ghost use Rattle.test_vector_lines.specs.Line.{line_of, whole_of};
 use crate::hex::{Number, hex_number};
 
 // An instruction's word, the values of its operands and the result that it writes for them.
-#[derive(Drop)]
+#[derive(Clone, Copy)]
 pub struct TestVector {
     pub word: u32,
     pub rs1: u64,
@@ -13,7 +13,7 @@ pub struct TestVector {
     pub result: u64,
 }
 
-#[derive(Drop)]
+#[derive(Clone, Copy)]
 pub enum Line {
     Whole(TestVector),
     Damaged,

@@ -1,14 +1,14 @@
 use compute::compute;
 use decode::decoded::{Decoded, Operand, OperationWord, ResolvedOperand, SecondOperand};
 
-#[derive(Drop)]
+#[derive(Clone, Copy)]
 pub enum Execution {
     Result(u64),
     // The word is no operation from x6, and x7 or an immediate, to x5.
     Other,
 }
 
-#[derive(Drop)]
+#[derive(Clone, Copy)]
 enum Value {
     Known(u64),
     Unknown,

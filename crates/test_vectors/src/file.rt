@@ -3,7 +3,7 @@ ghost use Rattle.std.specs.Prelude.{◌≤◌, length};
 use crate::tally::Tally;
 
 // How many bytes of the line that has not ended are kept, and the lines before it.
-#[derive(Drop)]
+#[derive(Clone, Copy)]
 struct Pending {
     length: usize,
     tally: Tally,

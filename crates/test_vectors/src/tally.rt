@@ -3,7 +3,7 @@ use crate::report;
 use test_vector_lines::line::{Line, TestVector, line_of};
 
 // How many lines of a file there were, and of all files of each kind.
-#[derive(Drop)]
+#[derive(Clone, Copy)]
 pub struct Tally {
     pub lines: u64,
     pub agree: u64,

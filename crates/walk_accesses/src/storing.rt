@@ -17,7 +17,7 @@ use walk_operations::position::{Fault, Position, Ran};
 use walk_pairs::Pair;
 use walk_transfers::sides::Sides;
 
-#[derive(Drop)]
+#[derive(Clone, Copy)]
 pub struct StorePlan {
     pub sides: Sides,
     pub offset: u64,

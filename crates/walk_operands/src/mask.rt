@@ -6,7 +6,7 @@ use registers::REGISTERS;
 use tables::entry::PredicateEntry;
 
 // Bit i of `on` is 1 where position i is on.
-#[derive(Drop)]
+#[derive(Clone, Copy)]
 pub struct Mask {
     pub on: u64,
     pub zeroing: bool,

@@ -5,7 +5,7 @@ ghost use Rattle.walk_operands.specs.Place.{place_of, register_at, fits};
 use decode::decoded::{Operand, ResolvedOperand};
 
 // A vector has a register for each position, from the one given on.
-#[derive(Drop)]
+#[derive(Clone, Copy)]
 pub struct Place {
     pub register: usize,
     pub vector: bool,

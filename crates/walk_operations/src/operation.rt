@@ -13,13 +13,13 @@ use scalar::operator::Operator;
 use walk_operands::mask::Mask;
 use walk_operands::place::Place;
 
-#[derive(Drop)]
+#[derive(Clone, Copy)]
 pub enum SecondPlace {
     Register(Place),
     Immediate(u64),
 }
 
-#[derive(Drop)]
+#[derive(Clone, Copy)]
 pub struct OperationPlan {
     pub vl: usize,
     pub operator: Operator,

@@ -4,7 +4,7 @@ ghost use Rattle.walk_operations.specs.Context.{fault_answer, onward, ended, fau
 
 use answers::Answer;
 
-#[derive(Drop)]
+#[derive(Clone, Copy)]
 pub struct Position {
     pub pc: u64,
     pub source: usize,
@@ -12,14 +12,14 @@ pub struct Position {
 }
 
 // An answer, and where the instruction stands after it.
-#[derive(Drop)]
+#[derive(Clone, Copy)]
 pub struct Ran {
     pub answer: Answer,
     pub position: Position,
 }
 
 // Why an access is refused.
-#[derive(Drop)]
+#[derive(Clone, Copy)]
 pub enum Fault {
     Misaligned,
     Outside,

@@ -8,7 +8,7 @@ use walk_operands::mask::Mask;
 use walk_operands::place::Place;
 
 // A side that doesn't walk stands at position 0 and ignores its mask.
-#[derive(Drop)]
+#[derive(Clone, Copy)]
 pub struct Side {
     pub place: Place,
     pub walks: bool,
@@ -16,7 +16,7 @@ pub struct Side {
 }
 
 // `Zeroed` where a side with zeroing is off.
-#[derive(Drop)]
+#[derive(Clone, Copy)]
 pub enum Pair {
     Found(usize, usize),
     Zeroed(usize, usize),

@@ -10,7 +10,7 @@ use walk_operations::position::{Position, Ran};
 use walk_pairs::{Pair, Side, find_pair};
 
 // `single` where the instruction ends after its first element.
-#[derive(Drop)]
+#[derive(Clone, Copy)]
 pub struct Sides {
     pub vl: usize,
     pub source: Side,
