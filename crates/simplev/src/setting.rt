@@ -2,7 +2,7 @@
 ghost use Rattle.std.specs.Prelude.{◌<◌, ◌≡◌, set};
 ghost use Rattle.machine.specs.Setting.{set_vl, set_vl_immediate, set_mvl, set_cfg, set_state_word, set_pc};
 ghost use Rattle.machine.specs.Setting.{set_register, set_register_entry, set_predicate_entry};
-ghost use Rattle.simplev_arrays.specs.Layout.{machine_in};
+ghost use Rattle.simplev_arrays.specs.Layout.{machine_of};
 ghost use Rattle.simplev_arrays.specs.Leaves.{Replies};
 
 use answers::{Answer, valid};
@@ -31,8 +31,8 @@ pub extern "C" fn simplev_set_vl<'a>(
     n: u64,
     value: &mut u64,
 ) -> u32
-    ensures { let m = machine_in registers.entry control.entry register_table.entry predicate_table.entry in
-        let after = machine_in registers.entry control.exit register_table.entry predicate_table.entry in
+    ensures { let m = machine_of registers.now control.old register_table.now predicate_table.now in
+        let after = machine_of registers.now control.new register_table.now predicate_table.now in
         Replies (set_vl m n) result value.new after }
 {
     set_vl(
@@ -56,8 +56,8 @@ pub extern "C" fn simplev_set_vl_immediate<'a>(
     n: u32,
     value: &mut u64,
 ) -> u32
-    ensures { let m = machine_in registers.entry control.entry register_table.entry predicate_table.entry in
-        let after = machine_in registers.entry control.exit register_table.entry predicate_table.entry in
+    ensures { let m = machine_of registers.now control.old register_table.now predicate_table.now in
+        let after = machine_of registers.now control.new register_table.now predicate_table.now in
         Replies (set_vl_immediate m n) result value.new after }
 {
     set_vl(
@@ -81,8 +81,8 @@ pub extern "C" fn simplev_set_mvl<'a>(
     n: u32,
     value: &mut u64,
 ) -> u32
-    ensures { let m = machine_in registers.entry control.entry register_table.entry predicate_table.entry in
-        let after = machine_in registers.entry control.exit register_table.entry predicate_table.entry in
+    ensures { let m = machine_of registers.now control.old register_table.now predicate_table.now in
+        let after = machine_of registers.now control.new register_table.now predicate_table.now in
         Replies (set_mvl m n) result value.new after }
 {
     let pc = control[PC];
@@ -111,8 +111,8 @@ pub extern "C" fn simplev_set_cfg<'a>(
     n: u32,
     value: &mut u64,
 ) -> u32
-    ensures { let m = machine_in registers.entry control.entry register_table.entry predicate_table.entry in
-        let after = machine_in registers.entry control.exit register_table.entry predicate_table.entry in
+    ensures { let m = machine_of registers.now control.old register_table.now predicate_table.now in
+        let after = machine_of registers.now control.new register_table.now predicate_table.now in
         Replies (set_cfg m n) result value.new after }
 {
     let pc = control[PC];
@@ -141,8 +141,8 @@ pub extern "C" fn simplev_set_state_word<'a>(
     word: u32,
     value: &mut u64,
 ) -> u32
-    ensures { let m = machine_in registers.entry control.entry register_table.entry predicate_table.entry in
-        let after = machine_in registers.entry control.exit register_table.entry predicate_table.entry in
+    ensures { let m = machine_of registers.now control.old register_table.now predicate_table.now in
+        let after = machine_of registers.now control.new register_table.now predicate_table.now in
         Replies (set_state_word m word) result value.new after }
 {
     let pc = control[PC];
@@ -170,8 +170,8 @@ pub extern "C" fn simplev_set_pc<'a>(
     pc: u64,
     value: &mut u64,
 ) -> u32
-    ensures { let m = machine_in registers.entry control.entry register_table.entry predicate_table.entry in
-        let after = machine_in registers.entry control.exit register_table.entry predicate_table.entry in
+    ensures { let m = machine_of registers.now control.old register_table.now predicate_table.now in
+        let after = machine_of registers.now control.new register_table.now predicate_table.now in
         Replies (set_pc m pc) result value.new after }
 {
     let state = state_of(control);
@@ -199,8 +199,8 @@ pub extern "C" fn simplev_set_register<'a>(
     value_in: u64,
     value: &mut u64,
 ) -> u32
-    ensures { let m = machine_in registers.entry control.entry register_table.entry predicate_table.entry in
-        let after = machine_in registers.exit control.entry register_table.entry predicate_table.entry in
+    ensures { let m = machine_of registers.old control.now register_table.now predicate_table.now in
+        let after = machine_of registers.new control.now register_table.now predicate_table.now in
         Replies (set_register m index value_in) result value.new after }
 {
     let answer = guarded(
@@ -231,8 +231,8 @@ pub extern "C" fn simplev_set_register_entry<'a>(
     entry: u16,
     value: &mut u64,
 ) -> u32
-    ensures { let m = machine_in registers.entry control.entry register_table.entry predicate_table.entry in
-        let after = machine_in registers.entry control.entry register_table.exit predicate_table.entry in
+    ensures { let m = machine_of registers.now control.now register_table.old predicate_table.now in
+        let after = machine_of registers.now control.now register_table.new predicate_table.now in
         Replies (set_register_entry m index entry) result value.new after }
 {
     let answer = guarded(
@@ -263,8 +263,8 @@ pub extern "C" fn simplev_set_predicate_entry<'a>(
     entry: u16,
     value: &mut u64,
 ) -> u32
-    ensures { let m = machine_in registers.entry control.entry register_table.entry predicate_table.entry in
-        let after = machine_in registers.entry control.entry register_table.entry predicate_table.exit in
+    ensures { let m = machine_of registers.now control.now register_table.now predicate_table.old in
+        let after = machine_of registers.now control.now register_table.now predicate_table.new in
         Replies (set_predicate_entry m index entry) result value.new after }
 {
     let answer = guarded(
