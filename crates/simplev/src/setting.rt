@@ -23,6 +23,7 @@ fn put_entry(entries: &mut [u16; ENTRIES], index: u32, entry: u16)
 
 // Plain form: n from 1.
 #[unsafe(no_mangle)]
+#[tactic(auto, unfolding(machine::specs::Setting::set_vl))]
 pub extern "C" fn simplev_set_vl<'a>(
     registers: &'a [u64; REGISTERS],
     control: &mut [u64; CONTROL_WORDS],
@@ -48,6 +49,7 @@ pub extern "C" fn simplev_set_vl<'a>(
 
 // Immediate form: n from 0 to 31 stands for n + 1.
 #[unsafe(no_mangle)]
+#[tactic(auto, unfolding(machine::specs::Setting::set_vl_immediate))]
 pub extern "C" fn simplev_set_vl_immediate<'a>(
     registers: &'a [u64; REGISTERS],
     control: &mut [u64; CONTROL_WORDS],
@@ -73,6 +75,7 @@ pub extern "C" fn simplev_set_vl_immediate<'a>(
 
 // VL is cut to the new MVL, and both offsets become 0.
 #[unsafe(no_mangle)]
+#[tactic(auto, unfolding(machine::specs::Setting::set_mvl))]
 pub extern "C" fn simplev_set_mvl<'a>(
     registers: &'a [u64; REGISTERS],
     control: &mut [u64; CONTROL_WORDS],
@@ -103,6 +106,7 @@ pub extern "C" fn simplev_set_mvl<'a>(
 
 // 0 to 31.
 #[unsafe(no_mangle)]
+#[tactic(auto, unfolding(machine::specs::Setting::set_cfg))]
 pub extern "C" fn simplev_set_cfg<'a>(
     registers: &'a [u64; REGISTERS],
     control: &mut [u64; CONTROL_WORDS],
@@ -133,6 +137,7 @@ pub extern "C" fn simplev_set_cfg<'a>(
 
 // MVL, VL cut to it, offsets and CFG in one word.
 #[unsafe(no_mangle)]
+#[tactic(auto, unfolding(machine::specs::Setting::set_state_word))]
 pub extern "C" fn simplev_set_state_word<'a>(
     registers: &'a [u64; REGISTERS],
     control: &mut [u64; CONTROL_WORDS],
@@ -162,6 +167,7 @@ pub extern "C" fn simplev_set_state_word<'a>(
 
 // Every program counter is good.
 #[unsafe(no_mangle)]
+#[tactic(auto, unfolding(machine::specs::Setting::set_pc))]
 pub extern "C" fn simplev_set_pc<'a>(
     registers: &'a [u64; REGISTERS],
     control: &mut [u64; CONTROL_WORDS],
@@ -190,6 +196,7 @@ pub extern "C" fn simplev_set_pc<'a>(
 
 // A write to register 0 is accepted, and vanishes.
 #[unsafe(no_mangle)]
+#[tactic(auto, unfolding(machine::specs::Setting::set_register))]
 pub extern "C" fn simplev_set_register<'a>(
     registers: &mut [u64; REGISTERS],
     control: &'a [u64; CONTROL_WORDS],
@@ -222,6 +229,7 @@ pub extern "C" fn simplev_set_register<'a>(
 
 // Every entry is good.
 #[unsafe(no_mangle)]
+#[tactic(auto, unfolding(machine::specs::Setting::set_register_entry))]
 pub extern "C" fn simplev_set_register_entry<'a>(
     registers: &'a [u64; REGISTERS],
     control: &'a [u64; CONTROL_WORDS],
@@ -254,6 +262,7 @@ pub extern "C" fn simplev_set_register_entry<'a>(
 
 // An entry with bit 0 set is a bad value.
 #[unsafe(no_mangle)]
+#[tactic(auto, unfolding(machine::specs::Setting::set_predicate_entry))]
 pub extern "C" fn simplev_set_predicate_entry<'a>(
     registers: &'a [u64; REGISTERS],
     control: &'a [u64; CONTROL_WORDS],
