@@ -15,7 +15,7 @@ use Rattle.division.specs.Division.{quotient, remainder}
 -- a word that is sign-extended stands for the same number
 pub extended_number : (a : ℕ) → to_z w64 (sign_extended Word a) ≡ to_z w32 (low_word a)
 unfolding sign_extended
-extended_number a = to_z-of_z (sfits_widen tt (sfits_to_z (Fits-wrap w32 a)))
+extended_number a = to_z-of_z {w = w64} (sfits_widen tt (sfits_to_z (Fits-wrap w32 a)))
 
 -- a number that a word can stand for
 abbrev IsWord : ℤ → Type 0

@@ -1,3 +1,5 @@
+#![tactic(auto)]
+
 // Division of 64-bit values and of words, signed and unsigned.
 ghost use Rattle.std.specs.Prelude.{◌≡◌, ◌<◌, int_div, int_rem};
 ghost use Rattle.std.specs.Int.{w32, w64};
@@ -35,6 +37,7 @@ fn signed_divide(a: u64, b: u64) -> Division
     }
 }
 
+#[tactic(auto, unfolding(crate::specs::Division::quotient, crate::specs::Division::remainder))]
 pub fn divide(signedness: Signedness, a: u64, b: u64) -> Division
     ensures { result ≡ divided signedness w64 a b }
 {

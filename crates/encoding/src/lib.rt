@@ -1,3 +1,5 @@
+#![tactic(auto)]
+
 // Which instruction a word is, and the fields that it has.
 pub mod fields;
 pub mod form;

@@ -6,6 +6,7 @@ use scalar::width::Width;
 
 // A number is written as its two halves, with no loop, so that it compiles to
 // one store.
+#[tactic(auto, unfolding(crate::specs::LittleEndian::written))]
 fn byte(memory: &mut [u8], at: usize, value: u64)
     requires { at + 1 ≤ length memory.old }
     ensures { memory.new ≡ written memory.old at 1 value }

@@ -1,3 +1,5 @@
+#![tactic(auto)]
+
 // The two halves of a product of 64-bit values, from products of halves and digits that fit 64 bits: the part has no
 // wide multiply. LLVM sees the low half as one multiply. The four products of halves it would join into the wide one,
 // so in the high half that of the low halves is made of two, by digits of 16 bits.
@@ -42,6 +44,7 @@ fn unsigned_high_half(a: u64, b: u64) -> u64
 }
 
 // What the high half of the unsigned product has too much of where the factor a is negative.
+#[tactic(auto, unfolding(crate::specs::Sign::sign_bit))]
 fn correction(signedness: Signedness, a: u64, b: u64) -> u64
     ensures { result ≡ sign_bit signedness a * b }
 {

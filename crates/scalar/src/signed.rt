@@ -64,7 +64,6 @@ pub fn arithmetic_shift(a: u64, b: u64) -> u64
 }
 
 // The low word of a shifted right by the low 5 bits of b, copying its sign bit, and sign-extended.
-#[tactic(auto, unfolding(crate::specs::Signed::arithmetic_shift))]
 pub fn arithmetic_shift_word(a: u64, b: u64) -> u64
     ensures { result ≡ sign_extended Word (arithmetic_shift w32 (low_word a) (b % 32)) }
 {

@@ -1,3 +1,5 @@
+#![tactic(auto)]
+
 // The entry that holds for a key: the same search in both tables.
 ghost use Rattle.std.specs.Prelude.{◌≤◌, ◌≡◌};
 ghost use Rattle.search.specs.Search.{entry_answers, held_entry, FindsEnabled};
@@ -19,6 +21,7 @@ pub enum Held {
 }
 
 // Whether an entry is an integer one with this key: one comparison of both fields, without the bits between them.
+#[tactic(auto, unfolding(crate::specs::Search::entry_answers))]
 pub fn entry_answers(table: Table, key: u8, word: u16) -> bool
     ensures { result ≡ entry_answers table key word }
 {

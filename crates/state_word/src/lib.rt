@@ -1,3 +1,5 @@
+#![tactic(auto)]
+
 // The five fields of the state word, and the word itself.
 ghost use Rattle.std.specs.Prelude.{◌≡◌, ◌-◌, min};
 ghost use Rattle.state_word.specs.State.{of_word, word_of, cut, good_word, with_vl, with_mvl, state_in_shape};
@@ -26,6 +28,7 @@ fn least(n: u64, most: u32) -> u32
 }
 
 impl State {
+    #[tactic(auto, unfolding(crate::specs::State::of_word))]
     pub fn of_word(word: u32) -> State
         ensures { result ≡ of_word word }
     {
@@ -38,6 +41,7 @@ impl State {
         }
     }
 
+    #[tactic(auto, unfolding(crate::specs::State::word_of))]
     pub fn word(self) -> u32
         ensures { result ≡ word_of self }
     {
@@ -75,6 +79,7 @@ impl State {
         self
     }
 
+    #[tactic(auto, unfolding(crate::specs::State::state_in_shape))]
     pub fn in_shape(self) -> bool
         ensures { result ≡ state_in_shape self }
     {
@@ -89,6 +94,7 @@ impl State {
 }
 
 // Whether a state word can be set.
+#[tactic(auto, unfolding(crate::specs::State::good_word))]
 pub fn good_word(word: u32) -> bool
     ensures { result ≡ good_word word }
 {

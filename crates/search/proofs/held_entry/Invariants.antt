@@ -1,0 +1,13 @@
+use Prim.Native.Nat.{◌≤◌}
+use mathlib.Core.Path.{◌≡◌, sym, ◌∙◌}
+use native.Mathlib.Omega.{arith}
+use borrow.Author.Rules.{rules}
+use Rattle.search.proofs.Highest.{held_start, held_yes, held_no, held_none}
+use Rattle.search.specs.Search.{candidate, highest, held_entry}
+use Rattle.search.proofs.held_entry.Given as goal
+
+abbrev pub invariant-loop-i : goal.invariant-loop-i
+invariant-loop-i l = (l.i ≤ l.range.end) × (held_entry l.table l.entries l.range l.key ≡ highest (candidate l.table l.entries l.range l.key) l.i)
+
+abbrev pub decreases-loop-i : goal.decreases-loop-i
+decreases-loop-i l = l.i

@@ -1,0 +1,62 @@
+use Prim.Native.Nat.{ℕ, ◌-◌, ◌%◌, ◌≤◌}
+use mathlib.Core.Path.{◌≡◌, refl, ◌∙◌}
+use native.Mathlib.Omega.{arith}
+use lib.Dec.{eqb}
+use lib.ListN.{get_or}
+use mathlib.Core.List.{List}
+use mathlib.Core.Bool.{false, not, ◌||◌}
+use borrow.Author.Tests.{eqb-true, not-false}
+use borrow.Author.Rules.{rules}
+use Rattle.bits.proofs.Booleans.{or_false}
+use Rattle.tables.proofs.Ranges.{end_low, end_even}
+use Rattle.search.specs.Search.{FindsEnabled}
+use Rattle.search.proofs.Highest.{held_shorter}
+use Rattle.search.proofs.used_range.Goals as goal
+
+empty : (n : ℕ) → not (eqb n 0) ≡ false → n ≡ 0
+empty n e = eqb-true n 0 e
+
+-- the last entry of a range that is empty in both tables is cut off
+shorter :
+    (cfg : ℕ) (register_table predicate_table : List ℕ) (first end : ℕ) →
+    FindsEnabled cfg register_table predicate_table (record { first = first; end = end }) →
+    (not (eqb (get_or register_table (end - 1) 0) 0) || not (eqb (get_or predicate_table (end - 1) 0) 0)) ≡ false →
+    FindsEnabled cfg register_table predicate_table (record { first = first; end = end - 1 })
+shorter cfg register_table predicate_table first end was e =
+    let low : end - 1 ≤ 16 = omega (arith, was.low) in
+    let both = or_false _ _ e in
+    record {
+      low = low;
+      registers = λ key. held_shorter _ _ _ _ (empty _ both.0) key ∙ was.registers key;
+      predicates = λ key. held_shorter _ _ _ _ (empty _ both.1) key ∙ was.predicates key;
+    }
+
+pub loop-end-init : goal.loop-end-init
+loop-end-init c =
+    rw c.enabled_range-range.ensures
+    (record { low = end_low _; registers = λ key. refl; predicates = λ key. refl }, end_even _)
+
+pub offset_bounds-register_table-end : goal.offset_bounds-register_table-end
+offset_bounds-register_table-end c = omega (arith, c.loop-end.invariant.0.low)
+
+pub overflow_sub-end-in-loop-end-3 : goal.overflow_sub-end-in-loop-end-3
+overflow_sub-end-in-loop-end-3 c =
+    let was = c.loop-end.invariant in
+    omega (arith, c.loop-end-test.true, was.1)
+
+pub loop-end-preserved : goal.loop-end-preserved
+loop-end-preserved c =
+    let was = c.loop-end.invariant in
+    let once = shorter _ _ _ _ _ was.0 c.if-register_table-end.false in
+    (shorter _ _ _ _ _ once c.if-register_table-end-2.false, omega (arith, was.1))
+
+pub returns-after-loop-end : goal.returns-after-loop-end
+returns-after-loop-end c = c.loop-end.invariant.0
+
+pub returns-then-register_table-end : goal.returns-then-register_table-end
+returns-then-register_table-end c = c.loop-end.invariant.0
+
+pub returns-then-register_table-end-2 : goal.returns-then-register_table-end-2
+returns-then-register_table-end-2 c =
+    let was = c.loop-end.invariant in
+    shorter _ _ _ _ _ was.0 c.if-register_table-end.false

@@ -1,0 +1,17 @@
+use Prim.Native.Nat.{◌/◌, ◌%◌}
+use native.Mathlib.Omega.{arith}
+use borrow.Author.Rules.{rules}
+use Rattle.tables.proofs.Ranges.{range_none, range_some, power}
+use Rattle.tables.proofs.enabled.enabled_range.Goals as goal
+
+pub returns-then-cfg-eq31 : goal.returns-then-cfg-eq31
+returns-then-cfg-eq31 c = range_none _ c.if-cfg-eq31.true
+
+pub overflow_add-end : goal.overflow_add-end
+overflow_add-end c = omega (arith, (power (c.args.cfg / 8 % 4) (omega arith)).1)
+
+pub returns-then-end-lt16 : goal.returns-then-end-lt16
+returns-then-end-lt16 c = range_some _ _ c.if-cfg-eq31.false (omega arith)
+
+pub returns : goal.returns
+returns c = range_some _ _ c.if-cfg-eq31.false (omega arith)
