@@ -1,3 +1,5 @@
+#![tactic(auto)]
+
 // What each operator of RV64I and RV64M computes.
 ghost use Rattle.std.specs.Prelude.{◌≡◌};
 ghost use Rattle.compute.specs.Compute.{computed};
@@ -11,6 +13,7 @@ use scalar::width::Width;
 
 // The result that `operator` writes for the operands a and b. Each arm takes the low words that it needs: taken before
 // the match they would cost every element.
+#[tactic(auto, unfolding(crate::specs::Compute::computed))]
 pub fn compute(operator: Operator, a: u64, b: u64) -> u64
     ensures { result ≡ computed operator a b }
 {

@@ -1,3 +1,5 @@
+#![tactic(auto)]
+
 // A word and the tables, read into one of the kinds.
 ghost use Rattle.std.specs.Prelude.{◌≡◌};
 ghost use Rattle.decode.specs.Decoding.{decoded, sources_unmasked};

@@ -134,6 +134,7 @@ fn load(
 
 // A word of a form. What the forms share is looked for once, before they part: compiled for each form, it would be a
 // call of its own.
+#[tactic(auto, unfolding(crate::specs::Decoding::decoded_as))]
 fn decoded_as<'a>(
     form: Form,
     word: u32,

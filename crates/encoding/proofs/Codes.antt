@@ -77,9 +77,9 @@ abbrev asks : ℕ → Top → Bool
 asks low any = false
 asks low (from l n) = eqb l low
 
-has_top : (word low : ℕ) (t : Top) → asks low t ≡ true → has_top t word ≡ eqb (bits 31 low word) (top_of t)
-has_top word low any e = cc
-has_top word low (from l n) e = rw (eqb-true l low e)
+has_top-asks : (word low : ℕ) (t : Top) → asks low t ≡ true → has_top t word ≡ eqb (bits 31 low word) (top_of t)
+has_top-asks word low any e = cc
+has_top-asks word low (from l n) e = rw (eqb-true l low e)
 
 abbrev long_row : ℕ → Row → Bool
 long_row low r = in_range r && asks low r.top
@@ -100,7 +100,7 @@ module _ (word n : ℕ) (e : n ≡ code word) where
         let g = and_left (in_range r) (asks low r.top) h in
         let o = ltb-true r.opcode 128 (and_left (ltb r.opcode 128) (ltb r.funct3 8) g) in
         let f = ltb-true r.funct3 8 (and_right (ltb r.opcode 128) (ltb r.funct3 8) g) in
-        rw (code_fits word r g, has_top word low r.top (and_right (in_range r) (asks low r.top) h), top, ← e)
+        rw (code_fits word r g, has_top-asks word low r.top (and_right (in_range r) (asks low r.top) h), top, ← e)
         (both high n (top_of r.top) (code_of r) (high * 1024 + n) (long_of r)
         (λ h. omega arith) (λ h. omega arith) (λ p q. omega arith))
 

@@ -28,6 +28,7 @@ fn code(word: u32) -> u32
 }
 
 // A form shows in funct3 and the opcode, and where these leave it open in the highest bits too.
+#[tactic(auto, unfolding(crate::specs::Listing::funct3_rows, crate::specs::Listing::funct6_rows, crate::specs::Listing::funct7_rows, crate::specs::Listing::first_form, crate::proofs::Passed::Apart, bits::specs::Lists::all))]
 pub fn form_of(word: u32) -> Form
     ensures { result ≡ form_of word }
 {
@@ -56,6 +57,7 @@ pub fn form_of(word: u32) -> Form
 }
 
 // The shifts by an immediate, by bits 31..26, funct3 and the opcode.
+#[tactic(auto, unfolding(crate::specs::Listing::funct6_rows, crate::specs::Listing::first_form, crate::proofs::Passed::Apart))]
 fn funct6_form(word: u32) -> Form
     ensures { result ≡ look_up funct6_rows word }
 {
@@ -68,6 +70,7 @@ fn funct6_form(word: u32) -> Form
 }
 
 // The forms with a funct7, by that, funct3 and the opcode.
+#[tactic(auto, unfolding(crate::specs::Listing::funct7_rows, crate::specs::Listing::first_form, crate::proofs::Passed::Apart))]
 fn funct7_form(word: u32) -> Form
     ensures { result ≡ look_up funct7_rows word }
 {

@@ -56,8 +56,8 @@ module _ (a b : ℕ) (ha : a < 2 ^ 64) (hb : b < 2 ^ 64) where
   high_back Signed t =
       let w = interpreted t w64 b in
       let h = product_below (2 ^ 63) (nat_abs (to_z w64 a)) (nat_abs w) (omega arith) (signed_range a ha) (range t b hb) in
-      to_z-of_z (record { sfits = quotient_below (to_z w64 a) w (2 ^ 63) h })
+      to_z-of_z {w = w64} (record { sfits = quotient_below (to_z w64 a) w (2 ^ 63) h })
   high_back Unsigned Signed =
       let h = product_below (2 ^ 63) (nat_abs (to_z w64 b)) a (omega arith) (signed_range b hb) ha in
-      to_z-of_z (record { sfits = quotient_below (pos a) (to_z w64 b) (2 ^ 63) (rw (mul_comm a (nat_abs (to_z w64 b))) h) })
+      to_z-of_z {w = w64} (record { sfits = quotient_below (pos a) (to_z w64 b) (2 ^ 63) (rw (mul_comm a (nat_abs (to_z w64 b))) h) })
   high_back Unsigned Unsigned = refl

@@ -17,6 +17,7 @@ fn partial(half: u64, factor: u64) -> u64
     half * factor
 }
 
+#[tactic(auto, unfolding(crate::specs::Product::low_half))]
 pub fn low_half(a: u64, b: u64) -> u64
     ensures { result ≡ low_half a b }
 {

@@ -7,15 +7,15 @@ use Rattle.products.proofs.low_half.Goals as goal
 pub returns : goal.returns
 unfolding low_half
 returns c =
-    let lows = c.before in
-    let cross = lows.before in
-    let second = cross.before in
-    let first = second.before in
+    let lows = c in
+    let cross = lows in
+    let second = cross in
+    let first = second in
     let x = first.args in
-    c.wrapping_add_u64.ensures
+    c.wrapping_add_u64.ensures.value
     ∙ rw (
       lows.partial-3.ensures.0,
-      cross.wrapping_add_u64-cross.ensures,
+      cross.wrapping_add_u64-cross.ensures.value,
       second.partial-2.ensures.0,
       first.partial.ensures.0,
     )

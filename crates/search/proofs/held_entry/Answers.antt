@@ -9,15 +9,9 @@ use Rattle.search.proofs.held_entry.Goals as goal
 pub loop-i-init : goal.loop-i-init
 loop-i-init c = (omega arith, held_start _ _ _ _ c.requires)
 
-pub offset_bounds-entries-i : goal.offset_bounds-entries-i
-offset_bounds-entries-i c = omega (arith, c.requires)
-
-pub bounds-entries-i : goal.bounds-entries-i
-bounds-entries-i c = omega (arith, c.requires)
-
 pub returns-then-entry_answers : goal.returns-then-entry_answers
 returns-then-entry_answers c =
-    let a = c.before in
+    let a = c in
     sym
     (a.loop-i.invariant.1
     ∙ held_yes _ _ _ _ a.loop-i.i c.loop-i-test.true a.loop-i.invariant.0
@@ -25,7 +19,7 @@ returns-then-entry_answers c =
 
 pub loop-i-preserved : goal.loop-i-preserved
 loop-i-preserved c =
-    let a = c.before in (
+    let a = c in (
       omega arith,
       a.loop-i.invariant.1
           ∙ held_no _ _ _ _ a.loop-i.i c.loop-i-test.true a.loop-i.invariant.0

@@ -14,7 +14,7 @@ use Rattle.search.proofs.Highest.{held_shorter}
 use Rattle.search.proofs.used_range.Goals as goal
 
 empty : (n : ℕ) → not (eqb n 0) ≡ false → n ≡ 0
-empty n e = eqb-true n 0 e
+empty n e = eqb-true n 0 (not-false _ e)
 
 -- the last entry of a range that is empty in both tables is cut off
 shorter :
@@ -36,25 +36,11 @@ loop-end-init c =
     rw c.enabled_range-range.ensures
     (record { low = end_low _; registers = λ key. refl; predicates = λ key. refl }, end_even _)
 
-pub offset_bounds-register_table-end : goal.offset_bounds-register_table-end
-offset_bounds-register_table-end c = omega (arith, c.loop-end.invariant.0.low)
-
-pub overflow_sub-end-in-loop-end-3 : goal.overflow_sub-end-in-loop-end-3
-overflow_sub-end-in-loop-end-3 c =
-    let was = c.loop-end.invariant in
-    omega (arith, c.loop-end-test.true, was.1)
-
 pub loop-end-preserved : goal.loop-end-preserved
 loop-end-preserved c =
     let was = c.loop-end.invariant in
     let once = shorter _ _ _ _ _ was.0 c.if-register_table-end.false in
     (shorter _ _ _ _ _ once c.if-register_table-end-2.false, omega (arith, was.1))
-
-pub returns-after-loop-end : goal.returns-after-loop-end
-returns-after-loop-end c = c.loop-end.invariant.0
-
-pub returns-then-register_table-end : goal.returns-then-register_table-end
-returns-then-register_table-end c = c.loop-end.invariant.0
 
 pub returns-then-register_table-end-2 : goal.returns-then-register_table-end-2
 returns-then-register_table-end-2 c =
