@@ -1,7 +1,6 @@
 -- Laws of tests: conjunctions, disjunctions, negations, and a choice by a test.
 use mathlib.Core.Path.{◌≡◌, refl, sym, ◌∙◌}
 use mathlib.Core.Bool.{Bool, true, false, cond, not, ◌&&◌, ◌||◌, true≢false}
-use borrow.Author.Tests.{not-true, not-false}
 
 pub and_left : (a b : Bool) → a && b ≡ true → a ≡ true
 and_left true b h = refl
@@ -19,12 +18,12 @@ pub or_false : (a b : Bool) → (a || b) ≡ false → (a ≡ false) × (b ≡ f
 or_false true b e = absurd (true≢false e)
 or_false false b e = (refl, e)
 
--- what a test `!f()` says of the definition x that f's result equals
-pub fails : {b x : Bool} → b ≡ x → not b ≡ true → x ≡ false
-fails {b} e h = sym e ∙ not-true b h
+-- what a test of f's result says of the definition x that the result equals
+pub fails : {b x : Bool} → b ≡ x → b ≡ false → x ≡ false
+fails e h = sym e ∙ h
 
-pub holds : {b x : Bool} → b ≡ x → not b ≡ false → x ≡ true
-holds {b} e h = sym e ∙ not-false b h
+pub holds : {b x : Bool} → b ≡ x → b ≡ true → x ≡ true
+holds e h = sym e ∙ h
 
 -- one of two, by a test
 pub by_cond : {A : Type 0} {x y : A} (Q : A → Type 0) (b : Bool) → (b ≡ true → Q x) → (b ≡ false → Q y) → Q (cond b x y)

@@ -1,3 +1,4 @@
+pub mod Found
 pub mod Held
 pub mod Lengths
 pub mod Operands

@@ -13,6 +13,7 @@ pub struct Mask {
 }
 
 // The mask by the word of the predicate entry that holds for an operand; 0, the empty entry, stands for none.
+#[tactic(auto, unfolding(crate::specs::Mask::mask_by, crate::specs::Mask::on_bits))]
 pub fn mask_by(predicate: u16, registers: &[u64; REGISTERS]) -> Mask
     ensures { result ≡ mask_by registers.now predicate }
 {
@@ -31,6 +32,7 @@ pub fn mask_by(predicate: u16, registers: &[u64; REGISTERS]) -> Mask
 }
 
 impl Mask {
+    #[tactic(auto, unfolding(crate::specs::Mask::is_on))]
     pub fn is_on(self, i: usize) -> bool
         requires { i < 64 }
         ensures { result ≡ is_on self i }

@@ -34,6 +34,7 @@ pub fn place_of(n: ResolvedOperand) -> Place
 
 impl Place {
     // The register of a position.
+    #[tactic(auto, unfolding(crate::specs::Place::register_at))]
     pub fn at(self, i: usize) -> usize
         requires { register_at self i < 128 }
         ensures { result ≡ register_at self i }

@@ -18,10 +18,10 @@ use Rattle.walk_operations.specs.Operation.{position_after, operation_unit}
 use Rattle.walk_operations.specs.OperationReady.{SecondFits}
 
 -- a second operand in registers has one for each position
-pub register_at :
+pub register_at-below :
     (second : SecondPlace) (p : Place) (vl i : ℕ) → second ≡ Register p → SecondFits vl second → i < vl →
     register_at p i < 128
-register_at second p vl i e f h = fits_at vl p i h (rw e at f)
+register_at-below second p vl i e f h = fits_at vl p i h (rw e at f)
 
 -- a unit, from what each of its steps gives
 module _ (p : OperationPlan) (registers : List ℕ) (position : Position) (on : Bool) (ran : Ran) (after : List ℕ)

@@ -41,6 +41,7 @@ fn second_at(second: SecondPlace, registers: &[u64; REGISTERS], vl: usize, i: us
 }
 
 // On from a position that is done.
+#[tactic(auto, unfolding(crate::specs::Operation::go_on))]
 fn go_on(vl: usize, position: Position, i: usize) -> Ran
     requires { i < 64 }
     ensures { result ≡ go_on vl position i }
@@ -54,6 +55,7 @@ fn go_on(vl: usize, position: Position, i: usize) -> Ran
 
 impl OperationPlan {
     // What a position computes.
+    #[tactic(auto, unfolding(crate::specs::Operation::element_of))]
     fn element(self, registers: &[u64; REGISTERS], i: usize) -> u64
         requires { OperationReady self × (i < self.vl) }
         ensures { result ≡ element_of self registers.now i }

@@ -1,3 +1,5 @@
+#![tactic(auto)]
+
 // The two sides of a move, a load or a store, and the pair of positions that they stand at.
 ghost use Rattle.std.specs.Prelude.{◌≡◌, ◌+◌, ◌-◌, ◌<◌, ◌≤◌, true, ◌⊎◌};
 ghost use Rattle.walk_operands.specs.Place.{register_at};
@@ -25,6 +27,7 @@ pub enum Pair {
 
 impl Side {
     // Where a side starts, by its offset.
+    #[tactic(auto, unfolding(crate::specs::Side::start))]
     pub fn start(self, offset: usize) -> usize
         ensures { result ≡ start self offset }
     {
@@ -32,6 +35,7 @@ impl Side {
     }
 
     // Where a side goes from a position.
+    #[tactic(auto, unfolding(crate::specs::Side::next))]
     pub fn next(self, i: usize) -> usize
         requires { i < 64 }
         ensures { result ≡ next self i }
@@ -40,6 +44,7 @@ impl Side {
     }
 
     // The register of a position, where the operand is a vector or the position 0.
+    #[tactic(auto, unfolding(walk_operands::specs::Place::register_at))]
     pub fn register(self, i: usize) -> usize
         requires { (register_at self.place i < 128) × (i ≡ 0 ⊎ self.place.vector ≡ true) }
         ensures { result ≡ register_at self.place i }
@@ -48,6 +53,7 @@ impl Side {
     }
 
     // Whether a side is skipped where its mask is off.
+    #[tactic(auto, unfolding(crate::specs::Pair::skips))]
     fn skips(self) -> bool
         ensures { result ≡ skips self }
     {
