@@ -24,6 +24,6 @@ parts m h = record {
   tables = and_right (state_in_shape m.state && eqb (get_or m.registers 0 0) 0) _ h;
 }
 
-pub in_shape : (m : Machine) → Parts m → in_shape m ≡ true
+pub in_shape-parts : (m : Machine) → Parts m → in_shape m ≡ true
 unfolding in_shape room_in_shape tables_in_shape
-in_shape m p = rw (p.state, eq-eqb _ _ p.zero_register, p.tables)
+in_shape-parts m p = rw (p.state, eq-eqb _ _ p.zero_register, p.tables)

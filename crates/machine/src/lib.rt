@@ -1,3 +1,5 @@
+#![tactic(auto)]
+
 // The machine by value, and the calls that set and read it.
 ghost use Rattle.std.specs.Prelude.{◌≡◌};
 ghost use Rattle.machine.specs.Shape.{fresh_machine, in_shape, Sized};
@@ -67,6 +69,7 @@ impl Machine {
     }
 
     // Whether none of the reasons of answer 6 applies.
+    #[tactic(auto, unfolding(crate::specs::Shape::in_shape, crate::specs::Shape::room_in_shape, crate::specs::Shape::tables_in_shape))]
     pub fn in_shape(self) -> bool
         ensures { result ≡ in_shape self }
     {

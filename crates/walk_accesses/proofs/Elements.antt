@@ -31,28 +31,28 @@ module _ (address bytes : ℕ) (served : Transferred) where
   unfolding where_aligned
   where_misaligned e = rw e
 
-  pub where_aligned : aligned address bytes ≡ true → where_aligned address bytes served ≡ served
+  pub where_aligned-aligned : aligned address bytes ≡ true → where_aligned address bytes served ≡ served
   unfolding where_aligned
-  where_aligned e = rw e
+  where_aligned-aligned e = rw e
 
 -- an element whose address is known, before what memory answers is
-pub load_element :
+pub load_element-at :
     (p : LoadPlan) (c : Context) (i j address : ℕ) →
     address ≡ address_at p.sides.source.place p.offset p.width c.registers i →
     load_element p c i j
     ≡ where_aligned address (bytes_of p.width)
     (loaded_to p c address j (load_value c.memory address p.width p.signed))
 unfolding load_element
-load_element p c i j address at = rw (← at)
+load_element-at p c i j address at = rw (← at)
 
-pub store_value :
+pub store_value-at :
     (p : StorePlan) (c : Context) (j value address : ℕ) →
     address ≡ address_at p.sides.destination.place p.offset p.width c.registers j →
     store_value p c j value
     ≡ where_aligned address (bytes_of p.width)
     (stored_to p c address value (store_answer c.memory address (bytes_of p.width)))
 unfolding store_value
-store_value p c j value address at = rw (← at)
+store_value-at p c j value address at = rw (← at)
 
 -- an element goes by registers and memory alone
 module _ (c : Context) (position : Position) where

@@ -45,6 +45,7 @@ pub(crate) fn address_at(
 }
 
 // The number of the bytes at an address, as 64 bits.
+#[tactic(auto, unfolding(crate::specs::Loading::load_value))]
 fn load_value_as(memory: &[u8], address: u64, width: Width, signed: bool) -> Loaded
     ensures { result ≡ load_value memory.now address width signed }
 {
@@ -74,6 +75,7 @@ fn load_value(memory: &[u8], address: u64, width: Width, signed: bool) -> Loaded
 
 impl LoadPlan {
     // One element.
+    #[tactic(auto, unfolding(crate::specs::Loading::load_unit))]
     pub fn unit(self, position: Position, registers: &mut [u64; REGISTERS], memory: &[u8]) -> Ran
         requires sides_ready { SidesReady self.sides × Within self.sides.vl position × Stands self.sides position }
         requires registers { OfRegisters self.sides.destination }
@@ -108,6 +110,7 @@ impl LoadPlan {
     }
 
     // At most as many elements as allowed.
+    #[tactic(auto, unfolding(crate::specs::Loading::load_unit))]
     pub fn walk(
         self,
         position: Position,

@@ -39,6 +39,7 @@ fn put(memory: &mut [u8], address: u64, width: Width, value: u64) -> Stored
 
 impl StorePlan {
     // One element.
+    #[tactic(auto, unfolding(crate::specs::Storing::store_unit))]
     pub fn unit(self, position: Position, registers: &[u64; REGISTERS], memory: &mut [u8]) -> Ran
         requires sides_ready { SidesReady self.sides × Within self.sides.vl position × Stands self.sides position }
         requires registers { OfRegisters self.sides.source }
@@ -79,6 +80,7 @@ impl StorePlan {
     }
 
     // At most as many elements as allowed.
+    #[tactic(auto, unfolding(crate::specs::Storing::store_unit))]
     pub fn walk(
         self,
         position: Position,

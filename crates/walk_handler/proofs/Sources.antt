@@ -14,10 +14,10 @@ use Rattle.walk_operations.specs.Context.{Context}
 use Rattle.walk_handler.specs.Prepare.{served, prepared}
 use Rattle.walk_handler.specs.Unit.{handled}
 
-pub sources_unmasked :
+pub handled-sources_unmasked :
     (vl : ℕ) (d : Decoded) (n : ℕ) (c : Context) → handled vl (sources_unmasked d) n c ≡ handled vl d n c
 unfolding all handled prepared served checked_operands default_width fitting operation_plan
-sources_unmasked vl (Operation w) n c = by w.second
+handled-sources_unmasked vl (Operation w) n c = by w.second
   where
     by :
         (s : SecondOperand) →
@@ -26,7 +26,7 @@ sources_unmasked vl (Operation w) n c = by w.second
         handled vl (sources_unmasked (Operation word)) n c ≡ handled vl (Operation word) n c
     by (Register r) = refl
     by (Immediate value) = refl
-sources_unmasked vl (Move w) n c = refl
-sources_unmasked vl (Load w) n c = refl
-sources_unmasked vl (Store w) n c = refl
-sources_unmasked vl Unknown n c = refl
+handled-sources_unmasked vl (Move w) n c = refl
+handled-sources_unmasked vl (Load w) n c = refl
+handled-sources_unmasked vl (Store w) n c = refl
+handled-sources_unmasked vl Unknown n c = refl

@@ -1,3 +1,5 @@
+#![tactic(auto)]
+
 // The run of the trap handler, on lent registers and memory.
 ghost use Rattle.std.specs.Prelude.{◌≡◌, true, ◌≤◌};
 ghost use Rattle.answers.specs.Answer.{accepts};
@@ -14,6 +16,7 @@ use walk_plans::checks::checked;
 use walk_plans::planning::{load_plan, move_plan, operation_plan, store_plan};
 
 // The plan of a word whose operands are served, walked up to the allowance.
+#[tactic(auto, unfolding(walk_pausable::specs::Call::begun, crate::specs::Prepare::prepared, crate::specs::Unit::handled))]
 fn walk_word(
     word: Decoded,
     vl: u32,

@@ -12,7 +12,7 @@ use Rattle.walk_operands.specs.Mask.{is_on}
 use Rattle.walk_pairs.specs.declared.Side.{Side}
 use Rattle.walk_pairs.specs.declared.Pair.TheVariants.{Found, Zeroed, End}
 use Rattle.walk_pairs.specs.Side.{start, next, past}
-use Rattle.walk_pairs.specs.Pair.{is_on-first_on, skips, skipped, off, met, pair_from, Meets}
+use Rattle.walk_pairs.specs.Pair.{first_on, skips, skipped, off, met, pair_from, Meets}
 use Rattle.walk_pairs.proofs.Skipping.{not_past, skipped_still, Rests}
 
 -- at a pair both sides have come to rest
@@ -45,12 +45,12 @@ pair_rest a b vl i₀ j₀ i j = by (past a vl (skipped a vl i₀)) (past b vl (
               record { here = both.1; below = rw (← both.1) (not_past b vl (skipped b vl j₀) q); off = refl };
         }
 
-first_from : (mask : Mask) (k i : ℕ) → i ≤ is_on-first_on mask k i
-unfolding is_on-first_on
+first_from : (mask : Mask) (k i : ℕ) → i ≤ first_on mask k i
+unfolding first_on
 first_from mask zero i = omega arith
 first_from mask (suc k) i = by (is_on mask i) (first_from mask k (i + 1))
   where
-    by : (t : Bool) → i + 1 ≤ is_on-first_on mask k (i + 1) → i ≤ cond t i (is_on-first_on mask k (i + 1))
+    by : (t : Bool) → i + 1 ≤ first_on mask k (i + 1) → i ≤ cond t i (first_on mask k (i + 1))
     by true h = omega arith
     by false h = omega arith
 

@@ -8,7 +8,7 @@ use borrow.Author.Tests.{eq-eqb, ne_eqb}
 use lib.Dec.{eqb}
 use Rattle.walk_operands.specs.declared.mask.Mask.{Mask}
 use Rattle.walk_operands.specs.Mask.{is_on}
-use Rattle.walk_pairs.specs.Pair.{is_on-first_on}
+use Rattle.walk_pairs.specs.Pair.{first_on}
 
 -- k plus the halvings of n to an odd number, at most l
 unfoldable pub first_odd : ℕ → ℕ → ℕ → ℕ
@@ -46,7 +46,7 @@ next_half n k =
     rw twice (sym (div-div-eq-div-mul n (2 ^ k) 2))
 
 -- of a mask shifted to a position
-pub on_odd : (mask : Mask) (l k : ℕ) → is_on-first_on mask l k ≡ first_odd l (mask.on / 2 ^ k) k
-unfolding is_on-first_on first_odd is_on
+pub on_odd : (mask : Mask) (l k : ℕ) → first_on mask l k ≡ first_odd l (mask.on / 2 ^ k) k
+unfolding first_on first_odd is_on
 on_odd mask zero k = refl
 on_odd mask (suc l) k = rw (on_odd mask l (k + 1), next_half mask.on k)

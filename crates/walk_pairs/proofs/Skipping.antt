@@ -10,7 +10,7 @@ use Rattle.walk_operands.specs.Mask.{is_on}
 use Rattle.walk_pairs.specs.declared.Side.{Side}
 use Rattle.walk_pairs.specs.declared.Pair.TheVariants.{Found, Zeroed, End}
 use Rattle.walk_pairs.specs.Side.{past}
-use Rattle.walk_pairs.specs.Pair.{is_on-first_on, skips, skipped, off, met, pair_from}
+use Rattle.walk_pairs.specs.Pair.{first_on, skips, skipped, off, met, pair_from}
 use Rattle.walk_pairs.proofs.Halving.{remaining}
 use Rattle.bits.proofs.Booleans.{and_left, by_cond}
 
@@ -23,15 +23,15 @@ unfolding skips
 skips_walks s = and_left s.walks _
 
 -- short of the end, the first position that is on is one
-is_on-first_on : (mask : Mask) (k i : ℕ) → is_on-first_on mask k i < i + k → is_on mask (is_on-first_on mask k i) ≡ true
-unfolding is_on-first_on
+is_on-first_on : (mask : Mask) (k i : ℕ) → first_on mask k i < i + k → is_on mask (first_on mask k i) ≡ true
+unfolding first_on
 is_on-first_on mask zero i h = absurd (omega arith)
 is_on-first_on mask (suc k) i h = by (is_on mask i) refl (is_on-first_on mask k (i + 1)) h
   where
     by :
         (t : Bool) → is_on mask i ≡ t →
-        (is_on-first_on mask k (i + 1) < i + 1 + k → is_on mask (is_on-first_on mask k (i + 1)) ≡ true) →
-        cond t i (is_on-first_on mask k (i + 1)) < i + suc k → is_on mask (cond t i (is_on-first_on mask k (i + 1))) ≡ true
+        (first_on mask k (i + 1) < i + 1 + k → is_on mask (first_on mask k (i + 1)) ≡ true) →
+        cond t i (first_on mask k (i + 1)) < i + suc k → is_on mask (cond t i (first_on mask k (i + 1))) ≡ true
     by true e on h = e
     by false e on h = on (omega (arith, h))
 
@@ -57,7 +57,7 @@ module _ (s : Side) (vl i : ℕ) where
   skipped_still w = rw w
 
   skipped_on : i < vl → is_on s.mask i ≡ true → skipped s vl i ≡ i
-  unfolding skipped is_on-first_on
+  unfolding skipped first_on
   skipped_on h on = by_cond (λ x. x ≡ i) (skips s) (λ e. rw (remaining vl i h, on)) (λ e. refl)
 
   skipped_here : skips s ≡ false → skipped s vl i ≡ i
@@ -67,8 +67,8 @@ module _ (s : Side) (vl i : ℕ) where
   -- from a position that is off
   skipped_next :
       skips s ≡ true → i < vl → is_on s.mask i ≡ false →
-      skipped s vl i ≡ is_on-first_on s.mask (vl - (i + 1)) (i + 1)
-  unfolding skipped is_on-first_on is_on
+      skipped s vl i ≡ first_on s.mask (vl - (i + 1)) (i + 1)
+  unfolding skipped first_on is_on
   skipped_next k h e = rw (k, remaining vl i h, e)
 
   off_still : s.walks ≡ false → off s i ≡ false
@@ -110,13 +110,13 @@ module _ (s : Side) (vl i : ℕ) where
 -- by the next position that is on, or VL
 module _
     (s : Side) (vl i k : ℕ) (skip : skips s ≡ true) (h : i < vl) (on : is_on s.mask i ≡ false)
-    (next : k ≡ is_on-first_on s.mask (vl - (i + 1)) (i + 1)) where
+    (next : k ≡ first_on s.mask (vl - (i + 1)) (i + 1)) where
   here : skipped s vl i ≡ k
   here = skipped_next s vl i skip h on ∙ sym next
 
   pub rests_next : k < vl → Rests s vl i k false
   rests_next below =
-      let inside : is_on-first_on s.mask (vl - (i + 1)) (i + 1) < i + 1 + (vl - (i + 1)) = rw (← next) (omega (arith, h, below)) in
+      let inside : first_on s.mask (vl - (i + 1)) (i + 1) < i + 1 + (vl - (i + 1)) = rw (← next) (omega (arith, h, below)) in
       record {
         here = here;
         below = λ e. below;

@@ -9,9 +9,9 @@ use Rattle.walk_pairs.specs.declared.Pair.TheVariants.{Found, Zeroed, End}
 use Rattle.walk_pairs.specs.Side.{past}
 
 -- the first of the k positions from i on that is on, and the one after them if none is
-unfoldable pub is_on-first_on : Mask → ℕ → ℕ → ℕ
-is_on-first_on mask zero i = i
-is_on-first_on mask (suc k) i = cond (is_on mask i) i (is_on-first_on mask k (i + 1))
+unfoldable pub first_on : Mask → ℕ → ℕ → ℕ
+first_on mask zero i = i
+first_on mask (suc k) i = cond (is_on mask i) i (first_on mask k (i + 1))
 
 -- a side that is skipped where its mask is off
 unfoldable pub skips : Side → Bool
@@ -19,7 +19,7 @@ skips s = s.walks && not s.mask.zeroing
 
 -- where a side stands after skipping, never past VL
 unfoldable pub skipped : Side → ℕ → ℕ → ℕ
-skipped s vl i = cond (skips s) (is_on-first_on s.mask (vl - i) i) i
+skipped s vl i = cond (skips s) (first_on s.mask (vl - i) i) i
 
 -- a walking side at a position that is off
 unfoldable pub off : Side → ℕ → Bool

@@ -6,18 +6,21 @@ use answers::Answer;
 use decode::decoded::{Decoded, ResolvedOperand, SecondOperand};
 use walk_operands::place::place_of;
 
+#[tactic(auto, unfolding(crate::specs::Operands::default_width))]
 fn default_width(n: ResolvedOperand) -> bool
     ensures { result ≡ default_width n }
 {
     n.width == 0
 }
 
+#[tactic(auto, unfolding(crate::specs::Operands::fitting))]
 fn fitting(n: ResolvedOperand, vl: u32) -> bool
     ensures { result ≡ fitting vl n }
 {
     place_of(n).fits(vl)
 }
 
+#[tactic(auto, unfolding(crate::specs::Operands::checked_operands))]
 fn checked_operands(
     first: ResolvedOperand,
     second: ResolvedOperand,
@@ -42,6 +45,7 @@ fn checked_operands(
 }
 
 // Of a word with two operands the second is looked at again; an unknown word has none.
+#[tactic(auto, unfolding(bits::specs::Lists::all, crate::specs::Operands::checked_operands))]
 pub fn checked(word: Decoded, vl: u32) -> Answer
     ensures { result ≡ checked vl word }
 {

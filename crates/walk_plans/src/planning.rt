@@ -23,6 +23,7 @@ fn second_plan(second: word::SecondOperand) -> SecondPlace
     }
 }
 
+#[tactic(auto, unfolding(crate::specs::Plan::operation_plan))]
 pub fn operation_plan(word: OperationWord, vl: u32, registers: &[u64; REGISTERS]) -> OperationPlan
     ensures { result ≡ operation_plan vl registers.now word }
 {
@@ -52,6 +53,7 @@ fn side_of(n: ResolvedOperand, always: bool, registers: &[u64; REGISTERS]) -> Si
     }
 }
 
+#[tactic(auto, unfolding(crate::specs::Plan::move_plan))]
 pub fn move_plan(word: MoveWord, vl: u32, registers: &[u64; REGISTERS]) -> Sides
     ensures { result ≡ move_plan vl registers.now word }
 {
@@ -66,6 +68,7 @@ pub fn move_plan(word: MoveWord, vl: u32, registers: &[u64; REGISTERS]) -> Sides
     }
 }
 
+#[tactic(auto, unfolding(crate::specs::Plan::load_plan))]
 pub fn load_plan(word: LoadWord, vl: u32, registers: &[u64; REGISTERS]) -> LoadPlan
     ensures { result ≡ load_plan vl registers.now word }
 {
@@ -86,6 +89,7 @@ pub fn load_plan(word: LoadWord, vl: u32, registers: &[u64; REGISTERS]) -> LoadP
     }
 }
 
+#[tactic(auto, unfolding(crate::specs::Plan::store_plan))]
 pub fn store_plan(word: StoreWord, vl: u32, registers: &[u64; REGISTERS]) -> StorePlan
     ensures { result ≡ store_plan vl registers.now word }
 {

@@ -4,6 +4,8 @@ use mathlib.Core.Bool.{Bool, true, false, cond}
 use mathlib.Core.Logic.{◌⊎◌, inl, inr}
 use mathlib.Core.Path.{◌≡◌, refl, sym, ◌∙◌}
 use Rattle.walk_operands.specs.Mask.{is_on}
+use Rattle.walk_operands.specs.Place.{register_at}
+use Rattle.walk_operands.proofs.Fits.{fits_at}
 use Rattle.walk_pairs.specs.declared.Side.{Side}
 use Rattle.walk_pairs.specs.declared.Pair.TheVariants.{Found}
 use Rattle.walk_pairs.specs.Side.{start}
@@ -12,7 +14,7 @@ use Rattle.walk_pairs.proofs.Skipping.{rests_on, both_rest}
 use Rattle.walk_pairs.proofs.Found.{pair_in, pair_rest, rests_start, start_in}
 use Rattle.walk_operations.specs.declared.position.Position.{Position}
 use Rattle.walk_transfers.specs.declared.sides.Sides.{Sides}
-use Rattle.walk_transfers.specs.SidesReady.{OfRegisters, Stands, Within}
+use Rattle.walk_transfers.specs.SidesReady.{SidesReady, OfRegisters, Stands, Within}
 use Rattle.walk_transfers.specs.Transfer.{started, pair_of}
 
 start_still : (s : Side) (offset : ℕ) → s.walks ≡ false → start s offset ≡ 0
@@ -97,3 +99,23 @@ on_pair s p within stands one two =
     (rests_on s.source s.vl _ within.source one)
     (rests_on s.destination s.vl _ within.destination two)
     ∙ stands_pair s p stands
+
+-- the registers of a pair that is reached: each side's exists
+module _ {s : Sides} {i j : ℕ} (ready : SidesReady s) (r : Reached s i j) where
+  pub source_register :
+      OfRegisters s.source → (register_at s.source.place i < 128) × (i ≡ 0 ⊎ s.source.place.vector ≡ true)
+  source_register of = (fits_at _ _ _ r.i_below ready.source, of_registers s.source _ of r.i_stands)
+
+  pub destination_register :
+      OfRegisters s.destination →
+      (register_at s.destination.place j < 128) × (j ≡ 0 ⊎ s.destination.place.vector ≡ true)
+  destination_register of = (fits_at _ _ _ r.j_below ready.destination, of_registers s.destination _ of r.j_stands)
+
+-- also that of a position where both sides stand
+pub standing : {s : Sides} {p : Position} → Within s.vl p → Stands s p → Reached s p.source p.destination
+standing within stands = record {
+  i_below = within.source;
+  j_below = within.destination;
+  i_stands = stands.source;
+  j_stands = stands.destination;
+}

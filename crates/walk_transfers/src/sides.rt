@@ -34,6 +34,7 @@ impl Sides {
     }
 
     // Where both sides start.
+    #[tactic(auto, unfolding(crate::specs::Transfer::started))]
     pub fn started(self, position: Position) -> Position
         ensures { result ≡ started self position }
     {

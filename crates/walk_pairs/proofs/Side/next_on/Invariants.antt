@@ -2,7 +2,6 @@ use Prim.Native.Nat.{◌+◌, ◌-◌, ◌≤◌}
 use mathlib.Core.Path.{◌≡◌, refl, sym, ◌∙◌}
 use native.Mathlib.Omega.{arith}
 use borrow.Author.Rules.{rules}
-use Rattle.walk_pairs.specs.Pair.{is_on-first_on}
 use Rattle.walk_pairs.proofs.Halving.{first_odd, even_halved, at_odd, at_end, next_half, on_odd}
 use Rattle.walk_pairs.proofs.Side.next_on.Given as goal
 
