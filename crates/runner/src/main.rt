@@ -1,4 +1,7 @@
+#![tactic(auto)]
+
 // Applies the record stream of standard input to a fresh machine, and writes what it prints to standard output.
-fn main() {
-    stream_io::run_descriptor(libc::STDIN_FILENO);
+fn main(rt: HostRuntime) {
+    let mut input = rt.stdin();
+    stream_io::run_descriptor(&rt, &mut input, "standard input");
 }

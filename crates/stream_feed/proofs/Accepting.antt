@@ -1,10 +1,10 @@
 -- When a piece is accepted, and a bad record printed.
-use Prim.Native.Nat.{ℕ, zero, suc, ◌+◌, ◌-◌, ◌*◌, ◌/◌, ◌^◌, ◌<◌, ◌≤◌}
+use Prim.Native.Nat.{ℕ, zero, suc, ◌+◌, ◌*◌, ◌^◌, ◌<◌, ◌≤◌}
 use native.Mathlib.Omega.{arith}
-use mathlib.Core.Path.{◌≡◌, refl, sym}
-use mathlib.Core.Bool.{Bool, true, false, ◌&&◌, ◌||◌, and-eq-true_iff}
+use mathlib.Core.Path.{◌≡◌, refl}
+use mathlib.Core.Bool.{true, false, ◌&&◌, ◌||◌, and-eq-true_iff}
 use mathlib.Core.List.{List, [], ◌∷◌}
-use borrow.Author.Tests.{lt-ltb, le-ltb, le-leb, lt-leb, leb-true, leb-false, ltb-true}
+use borrow.Author.Tests.{lt-ltb, le-leb, leb-true, ltb-true}
 use lib.Dec.{leb, ltb}
 use lib.ListN.{length, take}
 use Rattle.stream_records.specs.declared.reader.Reader.{Reader}
@@ -13,30 +13,12 @@ use Rattle.stream_text.specs.Lines.{bad_record_line}
 use Rattle.stream_feed.specs.Stream.{bad_text}
 use Rattle.stream_feed.specs.Feed.{acceptable}
 
--- two tests that say the same
-same_test : (a b c d : ℕ) → (a ≤ b → c ≤ d) → (c ≤ d → a ≤ b) → leb a b ≡ leb c d
-same_test a b c d to from = by (leb a b) refl (leb c d) refl
-  where
-    by : (t : Bool) → leb a b ≡ t → (u : Bool) → leb c d ≡ u → t ≡ u
-    by true e true f = refl
-    by true e false f = absurd (omega (arith, to (leb-true a b e), leb-false c d f))
-    by false e true f = absurd (omega (arith, from (leb-true c d f), leb-false a b e))
-    by false e false f = refl
-
 pub record Accepted (r : Reader) (bytes room : ℕ) : Type 0 where
   pub short : r.length ≤ 10
   pub counted : r.offset + r.length + bytes < 2 ^ 64
   pub roomy : 14 * (bytes + 10) ≤ room
 
 module _ (r : Reader) (bytes room : ℕ) where
-  pub too_long : 10 < r.length → false ≡ acceptable r bytes room
-  unfolding acceptable
-  too_long h = rw (lt-leb r.length 10 h)
-
-  pub uncounted : r.length ≤ 10 → 2 ^ 64 ≤ r.offset + r.length + bytes → false ≡ acceptable r bytes room
-  unfolding acceptable
-  uncounted s h = rw (le-leb r.length 10 s, le-ltb (r.offset + r.length + bytes) (2 ^ 64) h)
-
   pub by_room :
       r.length ≤ 10 → r.offset + r.length + bytes < 2 ^ 64 → leb (14 * (bytes + 10)) room ≡ acceptable r bytes room
   unfolding acceptable
@@ -54,13 +36,6 @@ module _ (r : Reader) (bytes room : ℕ) where
         counted = ltb-true (r.offset + r.length + bytes) (2 ^ 64) first.1;
         roomy = leb-true (14 * (bytes + 10)) room both.1;
       }
-
-pub no_room : (bytes room : ℕ) → room < 140 → false ≡ leb (14 * (bytes + 10)) room
-no_room bytes room h = sym (lt-leb (14 * (bytes + 10)) room (omega arith))
-
-pub enough_room : (bytes room : ℕ) → 140 ≤ room → leb bytes ((room - 140) / 14) ≡ leb (14 * (bytes + 10)) room
-enough_room bytes room h =
-    same_test bytes ((room - 140) / 14) (14 * (bytes + 10)) room (λ p. omega arith) (λ p. omega arith)
 
 -- bytes are pending where their number is not 0
 some_pending : (n : ℕ) (l : List ℕ) → 0 < length l → ltb 0 (length (take n l)) ≡ ltb 0 n

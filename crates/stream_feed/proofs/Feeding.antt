@@ -44,7 +44,8 @@ pub record FedSoFar (piece memory₀ out₀ : List ℕ) (reader₀ : Reader) (ma
     pub put : Put out₀ 0 done out at
     pub held : length memory ≡ length memory₀
     pub same :
-        after done (fed (stream_of reader machine memory) (drop i piece)) ≡ fed (stream_of reader₀ machine₀ memory₀) piece
+        after done (fed (stream_of reader machine memory) (drop i piece))
+        ≡ fed (stream_of reader₀ machine₀ memory₀) piece
 
 module _ (piece memory₀ out₀ : List ℕ) (reader₀ : Reader) (machine₀ : Machine) where
   pub started :

@@ -43,12 +43,12 @@ text_in e = ap (λ (x : TextOut). x.text) e
 out_in : {a b : TextOut} → a ≡ b → a.out ≡ b.out
 out_in e = ap (λ (x : TextOut). x.out) e
 
-pub written_if :
+pub wrote_if :
     (fits : Bool) {text out out' : List ℕ} {t : Text} {n : ℕ} → text_out t out' ≡ written_if fits text out →
     t ≡ Written n →
     (fits ≡ true) × Wrote text out n out'
-written_if true s e = let s' = text_in s in (refl, record { size = cc; bytes = out_in s })
-written_if false s e = let s' = text_in s in absurd (let z : ◌≡◌ {A = ℕ} 0 1 = cc in omega arith)
+wrote_if true s e = let s' = text_in s in (refl, record { size = cc; bytes = out_in s })
+wrote_if false s e = let s' = text_in s in absurd (let z : ◌≡◌ {A = ℕ} 0 1 = cc in omega arith)
 
 pub refused_if :
     (fits : Bool) {out out' : List ℕ} {t : Text} (text : List ℕ) → text_out t out' ≡ written_if fits text out →

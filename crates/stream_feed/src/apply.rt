@@ -19,6 +19,7 @@ fn store_answered(stored: Stored, address: u64) -> Answer
 }
 
 // A record applied: a setting call, a run or a store.
+#[tactic(auto, unfolding(crate::specs::Apply::applied))]
 pub(crate) fn apply(machine: Machine, record: Record, memory: &mut [u8]) -> Reply
     ensures { outcome result.answer (system result.machine memory.new)
         ≡ applied «record» (system machine memory.old) }

@@ -31,6 +31,7 @@ pub struct Applied {
 
 // Whether a reader can take so many bytes, and so much room holds all that
 // they may print: 56 bytes for every 4.
+#[tactic(auto, unfolding(crate::specs::Feed::acceptable))]
 fn acceptable(reader: Reader, bytes: usize, room: usize) -> bool
     ensures { result ≡ acceptable reader bytes room }
 {
@@ -114,6 +115,7 @@ fn feed_accepted(
 
 // Takes a piece of a stream, and writes what it prints. It is refused, and
 // nothing is done, where `out` might be too short.
+#[tactic(auto, unfolding(crate::specs::Feed::fed_into))]
 pub fn feed(
     reader: Reader,
     machine: Machine,

@@ -24,6 +24,7 @@ pub const LAST_ROOM: usize = 3363;
 
 // At the end of a stream, writes what it prints last. It is refused, and
 // nothing is written, where `out` might be too short.
+#[tactic(auto, unfolding(crate::specs::Feed::finished_into))]
 pub fn finish(reader: Reader, machine: Machine, out: &mut [u8]) -> Text
     ensures { text_out result out.new ≡ finished_into reader machine out.old }
 {

@@ -1,3 +1,5 @@
+#![tactic(auto)]
+
 // A record stream applied to a machine and its memory, and the text that it prints.
 
 // What a record does.

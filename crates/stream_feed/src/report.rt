@@ -6,6 +6,7 @@ use answers::Answer;
 use stream_records::record::Record;
 use stream_text::lines::{put_refused, put_run};
 
+#[tactic(auto, unfolding(crate::specs::Apply::setting_text, answers::specs::Answer::accepts))]
 fn put_setting(out: &mut [u8], at: usize, answer: Answer) -> usize
     requires { at + 54 ≤ length out.old }
     ensures { Put out.old at (setting_text answer) out.new result × (result ≤ at + 54) }
@@ -31,6 +32,7 @@ pub(crate) fn is_run(record: Record) -> bool
 }
 
 // The line of a record that was applied, if it has one.
+#[tactic(auto, unfolding(crate::specs::Apply::report_text))]
 pub(crate) fn put_report(
     out: &mut [u8],
     at: usize,

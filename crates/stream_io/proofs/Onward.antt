@@ -18,7 +18,7 @@ use Rattle.stream_feed.specs.Stream.{Stream, Fed, fed, last_text, finished, fres
 use Rattle.stream_feed.specs.Feed.{acceptable, stream_of, feed_result, fed_into}
 use Rattle.stream_feed.specs.Feed.{text_out, written_if, last_room, finished_into}
 use Rattle.stream_feed.proofs.Fed.{fed_append}
-use Rattle.stream_feed.proofs.Texts.{Wrote, written_if, fed_text, fed_stream}
+use Rattle.stream_feed.proofs.Texts.{Wrote, wrote_if, fed_text, fed_stream}
 use Rattle.stream_io.specs.Output.{Next, Holds, Sends, Whole, Reached}
 use Rattle.stream_io.specs.declared.Sent.{Sent}
 use Rattle.stream_io.specs.declared.Sent.TheVariants.{Upto}
@@ -44,9 +44,9 @@ module _ (s : Stream) (written : ℕ) (r : Reached s written) where
   next_text piece =
       record { bytes = r.bytes ++ piece; ended = false; same = rw (more piece) (rest (fed s piece).text) }
 
-  pub last_text : Next written (finished s)
+  pub next_last : Next written (finished s)
   unfolding output
-  last_text = record { bytes = r.bytes; ended = true; same = rw (← r.stream) (rest (finished s)) }
+  next_last = record { bytes = r.bytes; ended = true; same = rw (← r.stream) (rest (finished s)) }
 
   pub whole : (t : Sent) → Sends written (Written (length (finished s))) t → Whole t
   unfolding output
@@ -101,7 +101,7 @@ module _ (r : Reader) (m : Machine) (out out' : List ℕ) (written : ℕ) (t : T
     sends_last s sends = record {
       upto = λ n e.
           let u = sends.upto n e in
-          let w : (leb last_room (length out) ≡ true) × Wrote last out (n - written) out' = written_if _ same u.1 in
+          let w : (leb last_room (length out) ≡ true) × Wrote last out (n - written) out' = wrote_if _ same u.1 in
           (u.0, ap Written (sym w.1.size));
     }
 
@@ -128,6 +128,6 @@ module _ (reader : Reader) (machine : Machine) (piece memory out : List ℕ) (r 
       fed_onward s n sends e =
           let u = sends.upto n e in
           let w : (fits ≡ true) × Wrote (fed before piece).text out (n - written) out' =
-          written_if _ text_same u.1 in
+          wrote_if _ text_same u.1 in
           onward before written reached piece (stream_of r.reader r.machine memory') n
           (fed_stream reader machine piece memory out r memory' out' same w.0) u.0 w.1.size

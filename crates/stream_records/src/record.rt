@@ -38,6 +38,7 @@ pub struct Layout {
 }
 
 // A first field of no bytes stands for an unknown kind.
+#[tactic(auto, unfolding(crate::specs::Record::layout_of))]
 fn layout_of(kind: u8) -> Layout
     ensures { result ≡ layout_of kind }
 {
@@ -74,6 +75,7 @@ fn layout_of(kind: u8) -> Layout
 }
 
 // The same where run records are served, and where they are not.
+#[tactic(auto, unfolding(crate::specs::Record::served_layout))]
 fn served_layout(runs: bool, kind: u8) -> Layout
     ensures { result ≡ served_layout runs kind }
 {
@@ -87,6 +89,7 @@ fn served_layout(runs: bool, kind: u8) -> Layout
 }
 
 // The record of a known kind and its fields.
+#[tactic(auto, unfolding(crate::specs::Record::layout_of, crate::specs::Record::record_of))]
 fn record_of(kind: u8, first: u64, second: u64) -> Record
     requires { (0 < (layout_of kind).first)
         × (first < 2 ^ (8 * (layout_of kind).first))

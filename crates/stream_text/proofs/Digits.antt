@@ -66,3 +66,5 @@ at_most (suc f) k n h = by (ltb n 10) refl k h (λ k. at_most f k (n / 10))
 pub most_digits : (k n : ℕ) → n < 10 ^ suc k → length (decimal n) ≤ suc k
 unfolding decimal
 most_digits k n h = at_most n k n h
+
+pub ruleset digit_laws = (one_digit, no_more_digits, last_digit, more_digits)

@@ -4,6 +4,7 @@ ghost use Rattle.stream_text.specs.Put.{Put};
 
 // Writes the digits of a number from a place on, and gives the place after
 // them.
+#[tactic(auto, using(crate::proofs::Digits::digit_laws, crate::proofs::Puts::put_laws))]
 pub(crate) fn put_decimal(out: &mut [u8], at: usize, n: u64) -> usize
     requires { at + length (decimal n) ≤ length out.old }
     ensures { Put out.old at (decimal n) out.new result }

@@ -16,6 +16,7 @@ fn put_number(out: &mut [u8], at: usize, n: u64, after: u8) -> usize
     end + 1
 }
 
+#[tactic(auto, using(crate::proofs::Puts::put_laws))]
 fn put_bytes(out: &mut [u8], at: usize, bytes: &[u8]) -> usize
     requires { at + length bytes.now ≤ length out.old }
     ensures { Put out.old at bytes.now out.new result }
@@ -29,6 +30,7 @@ fn put_bytes(out: &mut [u8], at: usize, bytes: &[u8]) -> usize
 }
 
 // Two numbers with a space between, and a byte after them.
+#[tactic(auto, using(crate::proofs::Puts::put_laws))]
 fn put_pair(out: &mut [u8], at: usize, first: u64, second: u64, after: u8) -> usize
     requires { at + length (decimal first) + length (decimal second) + 2 ≤ length out.old }
     ensures { Put out.old at (number_then first space ++ number_then second after) out.new result }
@@ -38,7 +40,6 @@ fn put_pair(out: &mut [u8], at: usize, first: u64, second: u64, after: u8) -> us
 }
 
 // The answer of a run, the program counter and the two offsets.
-#[tactic(auto, unfolding(crate::specs::Lines::run_line))]
 pub fn put_run(
     out: &mut [u8],
     at: usize,
@@ -64,7 +65,6 @@ fn put_labelled(out: &mut [u8], at: usize, label: &[u8], n: u64) -> usize
 }
 
 // A setting that was refused.
-#[tactic(auto, unfolding(crate::specs::Lines::refused_line))]
 pub fn put_refused(out: &mut [u8], at: usize, answer: u32) -> usize
     requires { at + 19 ≤ length out.old }
     ensures { Put out.old at (refused_line answer) out.new result × (result ≤ at + 19) }
@@ -73,7 +73,6 @@ pub fn put_refused(out: &mut [u8], at: usize, answer: u32) -> usize
 }
 
 // A record that is cut or of an unknown kind.
-#[tactic(auto, unfolding(crate::specs::Lines::bad_record_line))]
 pub fn put_bad_record(out: &mut [u8], at: usize, offset: u64) -> usize
     requires { at + 35 ≤ length out.old }
     ensures { Put out.old at (bad_record_line offset) out.new result × (result ≤ at + 35) }
@@ -82,7 +81,6 @@ pub fn put_bad_record(out: &mut [u8], at: usize, offset: u64) -> usize
 }
 
 // A register and its value.
-#[tactic(auto, unfolding(crate::specs::Lines::register_line))]
 pub fn put_register(out: &mut [u8], at: usize, index: usize, value: u64) -> usize
     requires { (index < 1000) × (at + 26 ≤ length out.old) }
     ensures { Put out.old at (register_line index value) out.new result × (result ≤ at + 26) }
@@ -92,7 +90,7 @@ pub fn put_register(out: &mut [u8], at: usize, index: usize, value: u64) -> usiz
 }
 
 // A register that is 0 has no line.
-#[tactic(auto, unfolding(crate::specs::Lines::nonzero_line))]
+#[tactic(auto, using(crate::proofs::Puts::put_laws), unfolding(crate::specs::Lines::nonzero_line))]
 fn put_nonzero(out: &mut [u8], at: usize, index: usize, value: u64) -> usize
     requires { (index < 1000) × (at + 26 ≤ length out.old) }
     ensures { Put out.old at (nonzero_line index value) out.new result × (result ≤ at + 26) }
@@ -104,7 +102,7 @@ fn put_nonzero(out: &mut [u8], at: usize, index: usize, value: u64) -> usize
 }
 
 // Every register that is not 0, rising.
-#[tactic(auto, unfolding(crate::specs::Lines::lines_below))]
+#[tactic(auto, using(crate::proofs::Puts::put_laws), unfolding(crate::specs::Lines::lines_below))]
 pub fn put_registers(out: &mut [u8], at: usize, registers: &[u64; 128]) -> usize
     requires { at + 3328 ≤ length out.old }
     ensures { Put out.old at (lines_below registers.now 128) out.new result × (result ≤ at + 3328) }

@@ -53,7 +53,7 @@ abbrev words_from : List ℕ → ℕ → List (List ℕ)
 words_from line i = words_of (drop i line)
 
 -- a call's arguments, read one after the other
-pub call_with :
+pub called_with :
     (line : List ℕ) (call : ℕ) (ws : List (List ℕ)) (l : Limits) (a b : Part) → l ≡ as_limits (limits_of call) →
     Read line (cond (ltb 0 l.0) (up_to l.1 (word_at 0 ws)) (Value 0)) (cond (ltb 0 l.0) (drop 1 ws) ws) a →
     Read line
@@ -62,7 +62,7 @@ pub call_with :
     b →
     whole_of call a.number b.number (expected_of (words_from line b.end)) ≡ call_with call ws
 unfolding argument_of call_with
-call_with line call ws l a b e first second =
+called_with line call ws l a b e first second =
     let f = rw e at first in
     let s = rw e at second in
     let p = arguments (limits_of call) ws _ (words_from line b.end) (few call) f.rest s.rest in

@@ -1,3 +1,5 @@
+#![tactic(auto)]
+
 // The lines of a file of readings: a call by its name, its arguments, and what it must answer.
 
 // The words of a line.

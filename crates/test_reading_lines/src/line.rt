@@ -165,6 +165,7 @@ fn call_with(line: &[u8], call: u64, from: usize) -> Line
 }
 
 // A line that is no name and no note.
+#[tactic(auto, unfolding(crate::specs::Line::call_line))]
 fn call_line(line: &[u8]) -> Line
     ensures { result ≡ call_line (words_of line.now) }
 {
@@ -179,6 +180,7 @@ fn call_line(line: &[u8]) -> Line
 }
 
 // `#` begins the name of a reading, and `-` a note.
+#[tactic(auto, unfolding(crate::specs::Line::line_of))]
 pub fn line_of(line: &[u8]) -> Line
     ensures { result ≡ line_of line.now }
 {

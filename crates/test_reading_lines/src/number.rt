@@ -31,6 +31,7 @@ fn digits(word: &[u8], from: usize, base: u64) -> Number
 }
 
 // Decimal, or hex after 0x.
+#[tactic(auto, unfolding(crate::specs::Number::number_of))]
 fn number_of(word: &[u8]) -> Number
     ensures { result ≡ number_of word.now }
 {
@@ -47,6 +48,7 @@ fn number_of(word: &[u8]) -> Number
 }
 
 // A word as a number that is not above a limit.
+#[tactic(auto, unfolding(crate::specs::Number::up_to))]
 pub(crate) fn up_to(word: &[u8], most: u64) -> Number
     ensures { result ≡ up_to most word.now }
 {

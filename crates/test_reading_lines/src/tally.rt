@@ -24,6 +24,7 @@ pub enum Outcome {
 }
 
 // A count stays at the largest number, which no file reaches.
+#[tactic(auto, unfolding(crate::specs::Tally::one_more))]
 fn one_more(n: u64) -> u64
     ensures { result ≡ one_more n }
 {
@@ -31,6 +32,7 @@ fn one_more(n: u64) -> u64
 }
 
 // What a line comes to with what its call answered.
+#[tactic(auto, unfolding(crate::specs::Tally::outcome_of))]
 pub fn outcome_of(line: Line, answer: u64, value: u64) -> Outcome
     ensures { result ≡ outcome_of line answer value }
 {
@@ -61,6 +63,7 @@ impl Tally {
         }
     }
 
+    #[tactic(auto, unfolding(crate::specs::Tally::with_outcome))]
     pub fn with_outcome(mut self, outcome: Outcome) -> Tally
         ensures { result ≡ with_outcome outcome self }
     {
@@ -76,6 +79,7 @@ impl Tally {
     }
 
     // A file's lines come next. One that could not be read whole counts as a damaged line.
+    #[tactic(auto, unfolding(crate::specs::Tally::with_file))]
     pub fn with_file(mut self, whole: bool) -> Tally
         ensures { result ≡ with_file whole self }
     {

@@ -1,5 +1,14 @@
+#![tactic(auto)]
+
 // Runs the readings of the files that its arguments name: each line's call is made, and its answer
 // compared with the one that the line has.
+ghost use Rattle.std.specs.Prelude.{◌≤◌, length};
+
+use std::env::FillError;
+use std::fs::File;
+use std::io::Read;
+use std::rt::{Env, Files};
+use std::str;
 use test_reading_lines::tally::Tally;
 
 // The calls on a machine.
@@ -14,30 +23,52 @@ mod text;
 // What is printed of them.
 mod print;
 
-// A file that fills the buffer may go on after it, and an empty one was not read.
-fn run_file(index: usize, tally: Tally) -> Tally {
-    let mut path = io::buffer();
-    let length = os::arg(index, &mut path);
-    let fd = os::open_read(&path[..length]);
-    if fd < 0 {
-        print::print_file(&path[..length], false);
-        return tally.with_file(false);
+// Reads until the buffer is full, the file ends or a read fails, and gives how many bytes there are.
+fn read_full(file: &mut impl Read, buffer: &mut [u8]) -> usize
+    ensures { result ≤ length buffer.new }
+{
+    let mut done: usize = 0;
+    while done < buffer.len() {
+        match file.read(&mut buffer[done..]) {
+            Ok(0) => return done,
+            Ok(n) => done += n,
+            Err(_) => return done,
+        }
     }
-    let mut buffer = io::large_buffer();
-    let n = io::read_full(fd, &mut buffer);
-    libc::close(fd);
-    let whole = (0 < n) & (n < 65536);
-    print::print_file(&path[..length], whole);
-    text::run_text(&buffer[..n], tally.with_file(whole))
+    done
 }
 
-fn main() {
-    let n = os::arg_count();
-    let mut tally = Tally::new();
-    let mut i: usize = 1;
-    while i < n {
-        tally = run_file(i, tally);
-        i += 1;
+// The bytes of the file at a path, and none where it can't be opened.
+fn read_file(rt: &impl Files, path: &[u8], buffer: &mut [u8]) -> usize
+    ensures { result ≤ length buffer.new }
+{
+    let Ok(path) = str::from_utf8(path) else {
+        return 0;
+    };
+    match File::open(rt, path) {
+        Ok(mut file) => read_full(&mut file, buffer),
+        Err(_) => 0,
     }
-    print::print_totals(tally);
+}
+
+// A file that fills the buffer may go on after it, and an empty one was not read.
+fn run_file(rt: &(impl Files + Print), path: &[u8], tally: Tally) -> Tally {
+    let mut buffer = [0u8; 65536];
+    let n = read_file(rt, path, &mut buffer);
+    let whole = (0 < n) & (n < 65536);
+    print::print_file(rt, path, whole);
+    text::run_text(rt, &buffer[..n], tally.with_file(whole))
+}
+
+fn main(rt: HostRuntime) {
+    let mut tally = Tally::new();
+    for i in 1..usize::MAX {
+        let mut path = [0u8; 4096];
+        match rt.arg(i, &mut path) {
+            Ok(length) => tally = run_file(&rt, &path[..length], tally),
+            Err(FillError::TooLong) => tally = run_file(&rt, b"", tally),
+            Err(FillError::NotPresent) => break,
+        }
+    }
+    print::print_totals(&rt, tally);
 }

@@ -2,29 +2,28 @@
 use test_reading_lines::line::Line;
 use test_reading_lines::tally::{Outcome, Tally};
 
-fn print_line(number: u64, text: &[u8], what: &[u8]) {
-    io::write_all(1, b"\n  line ");
-    io::print_decimal(1, number);
-    io::write_all(1, b": ");
-    io::write_all(1, text);
-    io::write_all(1, what);
+fn print_line(rt: &impl Print, number: u64, text: &[u8]) {
+    let _ = print!(rt; "\n  line {number}: ");
+    let _ = rt.write_all(text);
 }
 
-fn print_pair(answer: u64, value: u64) {
-    io::print_decimal(1, answer);
-    io::write_all(1, b" 0x");
-    io::print_hex(1, value, 1);
-}
-
-fn print_difference(number: u64, text: &[u8], line: Line, answer: u64, value: u64) {
-    print_line(number, text, b": expected ");
-    print_pair(line.answer, line.value);
-    io::write_all(1, b", came ");
-    print_pair(answer, value);
+fn print_difference(
+    rt: &impl Print,
+    number: u64,
+    text: &[u8],
+    line: Line,
+    answer: u64,
+    value: u64,
+) {
+    print_line(rt, number, text);
+    let wanted_answer = line.answer;
+    let wanted_value = line.value;
+    let _ = print!(rt; ": expected {wanted_answer} {wanted_value:#x}, came {answer} {value:#x}");
 }
 
 // A line, by its number in the file, and what its call answered.
 pub(crate) fn print_outcome(
+    rt: &impl Print,
     outcome: Outcome,
     number: u64,
     text: &[u8],
@@ -34,43 +33,47 @@ pub(crate) fn print_outcome(
 ) {
     match outcome {
         Outcome::Name => {
-            io::write_all(1, text);
+            let _ = rt.write_all(text);
         }
-        Outcome::Differs => print_difference(number, text, line, answer, value),
-        Outcome::Damaged => print_line(number, text, b": damaged"),
+        Outcome::Differs => print_difference(rt, number, text, line, answer, value),
+        Outcome::Damaged => {
+            print_line(rt, number, text);
+            let _ = print!(rt; ": damaged");
+        }
         _ => {}
     }
 }
 
 // The end of a reading that began at a tally: its name's line is still open.
-pub(crate) fn print_end(start: Tally, end: Tally) {
+pub(crate) fn print_end(rt: &impl Print, start: Tally, end: Tally) {
     if (end.differ != start.differ) | (end.damaged != start.damaged) {
-        io::write_all(1, b"\n");
+        let _ = println!(rt; "");
         return;
     }
     if end.readings != start.readings {
-        io::write_all(1, b": ok\n");
+        let _ = println!(rt; ": ok");
     }
 }
 
 // A file's lines come next.
-pub(crate) fn print_file(path: &[u8], whole: bool) {
-    io::write_all(1, path);
+pub(crate) fn print_file(rt: &impl Print, path: &[u8], whole: bool) {
+    let _ = rt.write_all(path);
     if whole {
-        io::write_all(1, b"\n");
+        let _ = println!(rt; "");
         return;
     }
-    io::write_all(1, b": not read whole\n");
+    let _ = println!(rt; ": not read whole");
 }
 
-fn print_count(count: u64, what: &[u8]) {
-    io::print_decimal(1, count);
-    io::write_all(1, what);
-}
-
-pub(crate) fn print_totals(tally: Tally) {
-    print_count(tally.readings, b" readings, ");
-    print_count(tally.agree, b" lines agree, ");
-    print_count(tally.differ, b" differ, ");
-    print_count(tally.damaged, b" damaged\n");
+pub(crate) fn print_totals(rt: &impl Print, tally: Tally) {
+    let Tally {
+        readings,
+        agree,
+        differ,
+        damaged,
+        line: _,
+    } = tally;
+    let _ = println!(rt;
+        "{readings} readings, {agree} lines agree, {differ} differ, {damaged} damaged"
+    );
 }

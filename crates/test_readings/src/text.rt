@@ -47,17 +47,17 @@ fn reading_end(text: &[u8], from: usize) -> usize
 }
 
 // What a line's call answered, compared with what it must answer.
-fn compared(before: Tally, text: &[u8], line: Line, answer: Answer) -> Tally {
+fn compared(rt: &impl Print, before: Tally, text: &[u8], line: Line, answer: Answer) -> Tally {
     let number = answer.number() as u64;
     let value = answer.value();
     let outcome = outcome_of(line, number, value);
     let tally = before.with_outcome(outcome);
-    print_outcome(outcome, tally.line, text, line, number, value);
+    print_outcome(rt, outcome, tally.line, text, line, number, value);
     tally
 }
 
 // A line's call made, and its answer compared.
-fn with_line(bench: Bench, text: &[u8], memory: &mut [u8]) -> Bench {
+fn with_line(rt: &impl Print, bench: Bench, text: &[u8], memory: &mut [u8]) -> Bench {
     let line = line_of(text);
     let call = line.call;
     let a = line.first;
@@ -76,12 +76,12 @@ fn with_line(bench: Bench, text: &[u8], memory: &mut [u8]) -> Bench {
     Bench {
         machine,
         length,
-        tally: compared(bench.tally, text, line, answer),
+        tally: compared(rt, bench.tally, text, line, answer),
     }
 }
 
 // A reading has a machine and a memory of its own.
-fn run_reading(text: &[u8], tally: Tally) -> Tally {
+fn run_reading(rt: &impl Print, text: &[u8], tally: Tally) -> Tally {
     let mut room = [0u8; 128];
     let memory: &mut [u8] = &mut room;
     let mut bench = Bench {
@@ -92,19 +92,19 @@ fn run_reading(text: &[u8], tally: Tally) -> Tally {
     let mut at: usize = 0;
     while at < text.len() {
         let end = line_end(text, at);
-        bench = with_line(bench, &text[at..end], memory);
+        bench = with_line(rt, bench, &text[at..end], memory);
         at = end + 1;
     }
-    print_end(tally, bench.tally);
+    print_end(rt, tally, bench.tally);
     bench.tally
 }
 
-pub(crate) fn run_text(text: &[u8], start: Tally) -> Tally {
+pub(crate) fn run_text(rt: &impl Print, text: &[u8], start: Tally) -> Tally {
     let mut tally = start;
     let mut at: usize = 0;
     while at < text.len() {
         let end = reading_end(text, at);
-        tally = run_reading(&text[at..end], tally);
+        tally = run_reading(rt, &text[at..end], tally);
         at = end;
     }
     tally

@@ -1,27 +1,40 @@
+#![tactic(auto)]
+
 // Runs each record stream that its arguments name, in turn, and writes the name and what the stream prints.
-fn run_file(index: usize) {
-    let mut path = io::buffer();
-    let length = os::arg(index, &mut path);
-    if os::errno() != 0 {
-        os::fail(b"argument");
-        return;
+use failures::say_failure;
+use std::env::FillError;
+use std::fs::File;
+use std::rt::{Env, Files};
+use std::str;
+
+fn run_file(rt: &(impl Files + Print + Eprint), path: &str) {
+    match File::open(rt, path) {
+        Ok(mut file) => {
+            let _ = println!(rt; "{path}");
+            stream_io::run_descriptor(rt, &mut file, "stream");
+        }
+        Err(error) => say_failure(rt, path, error),
     }
-    let fd = os::open_read(&path[..length]);
-    if fd < 0 {
-        os::fail(&path[..length]);
-        return;
-    }
-    io::write_all(1, &path[..length]);
-    io::write_all(1, b"\n");
-    stream_io::run_descriptor(fd);
-    libc::close(fd);
 }
 
-fn main() {
-    let n = os::arg_count();
-    let mut i: usize = 1;
-    while i < n {
-        run_file(i);
-        i += 1;
+fn run_argument(rt: &(impl Files + Print + Eprint), path: &[u8]) {
+    match str::from_utf8(path) {
+        Ok(path) => run_file(rt, path),
+        Err(_) => {
+            let _ = eprintln!(rt; "argument: Not UTF-8");
+        }
+    }
+}
+
+fn main(rt: HostRuntime) {
+    for i in 1..usize::MAX {
+        let mut path = [0u8; 4096];
+        match rt.arg(i, &mut path) {
+            Ok(length) => run_argument(&rt, &path[..length]),
+            Err(FillError::TooLong) => {
+                let _ = eprintln!(rt; "argument: File name too long");
+            }
+            Err(FillError::NotPresent) => break,
+        }
     }
 }

@@ -1,5 +1,12 @@
+#![tactic(auto)]
+
 // Checks the files of test vectors that its arguments name: each line's word is decoded and computed,
 // and compared with the line's result.
+use failures::say_failure;
+use std::env::FillError;
+use std::fs::File;
+use std::rt::{Env, Files};
+use std::str;
 use tally::Tally;
 
 // What a word computes for the values of x6 and x7.
@@ -14,33 +21,46 @@ mod tally;
 // The lines of a file that is read in pieces.
 mod file;
 
-fn check_argument(index: usize, tally: Tally) -> Tally {
-    let mut path = io::buffer();
-    let length = os::arg(index, &mut path);
-    if os::errno() != 0 {
-        os::fail(b"path");
-        return tally.with_damage();
+fn check_path(rt: &(impl Files + Print + Eprint), path: &str, tally: Tally) -> Tally {
+    let mut file = match File::open(rt, path) {
+        Ok(file) => file,
+        Err(error) => {
+            say_failure(rt, path, error);
+            return tally.with_damage();
+        }
+    };
+    let _ = println!(rt; "{path}");
+    file::check_file(rt, &mut file, path, tally)
+}
+
+// An argument that names no file.
+fn unnamed(rt: &impl Eprint, why: &str, tally: Tally) -> Tally {
+    let _ = eprintln!(rt; "path: {why}");
+    tally.with_damage()
+}
+
+fn check_argument(rt: &(impl Files + Print + Eprint), path: &[u8], tally: Tally) -> Tally {
+    match str::from_utf8(path) {
+        Ok(path) => check_path(rt, path, tally),
+        Err(_) => unnamed(rt, "Not UTF-8", tally),
     }
-    let fd = os::open_read(&path[..length]);
-    if fd < 0 {
-        os::fail(&path[..length]);
-        return tally.with_damage();
-    }
-    io::write_all(1, &path[..length]);
-    io::write_all(1, b"\n");
-    let after = file::check_file(fd, &path[..length], tally);
-    libc::close(fd);
-    after
 }
 
 // The first argument has to be there.
-fn main() {
-    let n = os::arg_count();
-    let mut tally = check_argument(1, Tally::new());
-    let mut i: usize = 2;
-    while i < n {
-        tally = check_argument(i, tally);
-        i += 1;
+fn main(rt: HostRuntime) {
+    let mut tally = Tally::new();
+    for i in 1..usize::MAX {
+        let mut path = [0u8; 4096];
+        match rt.arg(i, &mut path) {
+            Ok(length) => tally = check_argument(&rt, &path[..length], tally),
+            Err(FillError::TooLong) => tally = unnamed(&rt, "File name too long", tally),
+            Err(FillError::NotPresent) => {
+                if i == 1 {
+                    tally = unnamed(&rt, "Invalid argument", tally);
+                }
+                break;
+            }
+        }
     }
-    tally.print();
+    tally.print(&rt);
 }

@@ -1,27 +1,13 @@
-fn line_number(number: u64) {
-    io::write_all(1, b"line ");
-    io::print_decimal(1, number);
+pub(crate) fn difference(rt: &impl Print, number: u64, res: u64, got: u64) {
+    let _ = println!(rt; "line {number}: expected {res:016x}, got {got:016x}");
 }
 
-fn expected(number: u64, res: u64) {
-    line_number(number);
-    io::write_all(1, b": expected ");
-    io::print_hex(1, res, 16);
+pub(crate) fn other(rt: &impl Print, number: u64, res: u64) {
+    let _ = println!(rt;
+        "line {number}: expected {res:016x}, got no operation from x6 and x7 to x5"
+    );
 }
 
-pub(crate) fn difference(number: u64, res: u64, got: u64) {
-    expected(number, res);
-    io::write_all(1, b", got ");
-    io::print_hex(1, got, 16);
-    io::write_all(1, b"\n");
-}
-
-pub(crate) fn other(number: u64, res: u64) {
-    expected(number, res);
-    io::write_all(1, b", got no operation from x6 and x7 to x5\n");
-}
-
-pub(crate) fn damaged(number: u64) {
-    line_number(number);
-    io::write_all(1, b": damaged\n");
+pub(crate) fn damaged(rt: &impl Print, number: u64) {
+    let _ = println!(rt; "line {number}: damaged");
 }

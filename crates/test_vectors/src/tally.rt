@@ -17,17 +17,17 @@ fn one_more(n: u64) -> u64 {
 }
 
 // Whether the word computes the result; said where it does not.
-fn agrees(number: u64, vector: TestVector) -> bool {
+fn agrees(rt: &impl Print, number: u64, vector: TestVector) -> bool {
     match execute(vector.word, vector.rs1, vector.rs2) {
         Execution::Result(got) => {
             if got == vector.result {
                 return true;
             }
-            report::difference(number, vector.result, got);
+            report::difference(rt, number, vector.result, got);
             false
         }
         Execution::Other => {
-            report::other(number, vector.result);
+            report::other(rt, number, vector.result);
             false
         }
     }
@@ -55,11 +55,11 @@ impl Tally {
         self
     }
 
-    pub(crate) fn with_line(mut self, line: &[u8]) -> Tally {
+    pub(crate) fn with_line(mut self, rt: &impl Print, line: &[u8]) -> Tally {
         self.lines = one_more(self.lines);
         match line_of(line) {
             Line::Whole(vector) => {
-                if agrees(self.lines, vector) {
+                if agrees(rt, self.lines, vector) {
                     self.agree = one_more(self.agree);
                     return self;
                 }
@@ -67,19 +67,19 @@ impl Tally {
                 self
             }
             Line::Damaged => {
-                report::damaged(self.lines);
+                report::damaged(rt, self.lines);
                 self.with_damage()
             }
         }
     }
 
-    pub(crate) fn print(self) {
-        io::write_all(1, b"vectors: ");
-        io::print_decimal(1, self.agree);
-        io::write_all(1, b" agree, ");
-        io::print_decimal(1, self.differ);
-        io::write_all(1, b" differ, ");
-        io::print_decimal(1, self.damaged);
-        io::write_all(1, b" damaged\n");
+    pub(crate) fn print(self, rt: &impl Print) {
+        let Tally {
+            lines: _,
+            agree,
+            differ,
+            damaged,
+        } = self;
+        let _ = println!(rt; "vectors: {agree} agree, {differ} differ, {damaged} damaged");
     }
 }

@@ -1,11 +1,6 @@
 use Prim.Native.Nat.{◌+◌, ◌-◌, ◌≤◌}
-use mathlib.Core.Path.{refl}
 use lib.ListN.{length, take}
-use lib.Seq.{take_all}
 use Rattle.stream_text.specs.Put.{Put}
-use Rattle.stream_text.proofs.Puts.{copy_more, put_length}
-use borrow.Author.Rules.{rules}
-use native.Mathlib.Omega.{arith}
 use Rattle.stream_text.proofs.lines.put_bytes.Given as goal
 
 abbrev pub invariant-loop-i : goal.invariant-loop-i

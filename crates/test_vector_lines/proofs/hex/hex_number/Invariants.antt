@@ -1,10 +1,7 @@
-use Prim.Native.Nat.{◌+◌, ◌-◌, ◌*◌, ◌^◌, ◌≤◌, ◌<◌}
-use mathlib.Core.Path.{◌≡◌, refl, ◌∙◌, sym}
+use Prim.Native.Nat.{◌-◌, ◌^◌, ◌≤◌, ◌<◌}
+use mathlib.Core.Path.{◌≡◌}
 use lib.Seq.{slice}
-use native.Mathlib.Omega.{arith}
-use borrow.Author.Rules.{rules}
 use Rattle.test_vector_lines.specs.Hex.{hex_number, digits_after}
-use Rattle.test_vector_lines.proofs.Digits.{stop, step, done, longer, fits}
 use Rattle.test_vector_lines.proofs.hex.hex_number.Given as goal
 
 abbrev pub invariant-loop-i : goal.invariant-loop-i

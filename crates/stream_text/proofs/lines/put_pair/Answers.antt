@@ -1,0 +1,5 @@
+use Rattle.stream_text.proofs.Puts.{put_join}
+use Rattle.stream_text.proofs.lines.put_pair.Goals as goal
+
+pub returns : goal.returns
+returns c = put_join c.put_number-next.ensures c.put_number.ensures

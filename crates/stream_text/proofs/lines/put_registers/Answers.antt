@@ -1,0 +1,8 @@
+use Rattle.std.proofs.Common.{arith}
+use Rattle.stream_text.proofs.Puts.{register_more}
+use Rattle.stream_text.proofs.lines.put_registers.Goals as goal
+
+pub loop-i-preserved : goal.loop-i-preserved
+loop-i-preserved c =
+    let next = c.put_nonzero-next.ensures in
+    (omega arith, omega (arith, next.1), register_more _ _ c.loop-i.invariant.2 next.0)
