@@ -19,7 +19,7 @@ use Rattle.stream_feed.specs.Stream.{Fed, fed, finished, fresh_stream, output}
 use Rattle.stream_feed.specs.Feed.{piece_room, acceptable, feed_result, fed_into, stream_of}
 use Rattle.stream_feed.specs.Feed.{last_room, finished_into, text_out, written_if, written_into}
 use Rattle.stream_feed.proofs.Accepting.{by_room, accepted}
-use Rattle.stream_feed.proofs.Texts.{Wrote, wrote_within, wrote_more, written_if, refused_if, fed_text, fed_stream}
+use Rattle.stream_feed.proofs.Texts.{Wrote, wrote_within, wrote_more, wrote_if, refused_if, fed_text, fed_stream}
 use Rattle.stream_whole.specs.Whole.{whole_room, run_into}
 
 -- without room for the end there is none for the whole
@@ -74,7 +74,7 @@ module _ {bytes out memory part : List ℕ} {r : declared.Fed} (g : Given bytes 
 
   module _ (n : ℕ) (answered : r.text ≡ Written n) where
     wrote : (fits ≡ true) × Wrote first.text head n part
-    wrote = written_if _ text_same answered
+    wrote = wrote_if _ text_same answered
 
     within : n ≤ room
     within = omega (arith, wrote_within wrote.1, g.kept, room_length)
@@ -122,7 +122,7 @@ module _ {bytes out memory part : List ℕ} {r : declared.Fed} (g : Given bytes 
           omega (arith, short, length-drop n current, current_length, within)
 
       wrote_end : (m : ℕ) → t ≡ Written m → Wrote last_text rest m last
-      wrote_end m e = (written_if (leb last_room (length rest)) ended e).1
+      wrote_end m e = (wrote_if (leb last_room (length rest)) ended e).1
 
       pub both_within : (m : ℕ) → t ≡ Written m → length last ≡ length lent → (n ≤ length out) × (m ≤ length out)
       both_within m e h =
