@@ -1,8 +1,7 @@
 -- The turns of a loop that walks in place: what is left to walk from here is the walk from the start.
 use Prim.Native.Nat.{ℕ, zero, suc, ◌-◌, ◌<◌, ◌≤◌}
-use mathlib.Core.Bool.{Bool, true, not, false}
+use mathlib.Core.Bool.{Bool, false}
 use mathlib.Core.Path.{◌≡◌, refl, sym, ◌∙◌}
-use borrow.Author.Tests.{not-true}
 use native.Mathlib.Numerals.{sub-one}
 use native.Mathlib.Omega.{arith}
 use Rattle.walk_pausable.specs.Outcome.{Pausing, Outcome, outcome, Paused, if_paused}

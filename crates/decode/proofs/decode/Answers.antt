@@ -1,5 +1,4 @@
 use mathlib.Core.Path.{◌∙◌, ap}
-use borrow.Author.Rules.{rules}
 use Rattle.decode.specs.Decoding.{sources_unmasked}
 use Rattle.decode.proofs.Lengths.{of_16_bits, of_32_bits}
 use Rattle.decode.proofs.decode.Goals as goal

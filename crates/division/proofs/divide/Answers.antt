@@ -1,4 +1,4 @@
-use Rattle.std.proofs.Common.{rules, ne_eqb}
+use Rattle.std.proofs.Common.{ne_eqb}
 use Rattle.division.specs.Division.{quotient, remainder}
 use Rattle.division.proofs.Quotients.{both_parts}
 use Rattle.division.proofs.divide.Goals as goal

@@ -1,7 +1,6 @@
-use Rattle.std.proofs.Common.{sym, ◌∙◌, w64, Fits, rules}
+use Rattle.std.proofs.Common.{◌∙◌}
 use lib.Signed.{quot_z, rem_z}
 use Rattle.division.proofs.Quotients.{divides, divided, quotient_fits, remainder_fits}
-use Rattle.division.proofs.Quotients.{negative_quotient, no_remainder}
 use Rattle.division.proofs.signed_divide.Goals as goal
 
 pub nonzero_div-dividend : goal.nonzero_div-dividend

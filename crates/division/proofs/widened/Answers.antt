@@ -1,4 +1,4 @@
-use Rattle.std.proofs.Common.{ap, ◌∙◌, w64, to_z, rules}
+use Rattle.std.proofs.Common.{ap, ◌∙◌, w64, to_z}
 use Rattle.division.proofs.Words.{extended_number}
 use Rattle.division.proofs.widened.Goals as goal
 

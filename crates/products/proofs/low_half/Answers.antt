@@ -1,5 +1,5 @@
 -- The searches find that the products fit.
-use Rattle.std.proofs.Common.{◌∙◌, rules}
+use Rattle.std.proofs.Common.{◌∙◌}
 use Rattle.products.specs.Product.{low_half}
 use Rattle.products.proofs.Digits.{low_by_halves}
 use Rattle.products.proofs.low_half.Goals as goal

@@ -1,9 +1,6 @@
-use Prim.Native.Nat.{◌≤◌}
-use mathlib.Core.Path.{◌≡◌, sym, ◌∙◌}
+use mathlib.Core.Path.{sym, ◌∙◌}
 use native.Mathlib.Omega.{arith}
-use borrow.Author.Rules.{rules}
 use Rattle.search.proofs.Highest.{held_start, held_yes, held_no, held_none}
-use Rattle.search.specs.Search.{candidate, highest, held_entry}
 use Rattle.search.proofs.held_entry.Goals as goal
 
 pub loop-i-init : goal.loop-i-init

@@ -1,8 +1,5 @@
 use Prim.Native.Nat.{◌≤◌}
-use mathlib.Core.Path.{◌≡◌, sym, ◌∙◌}
-use native.Mathlib.Omega.{arith}
-use borrow.Author.Rules.{rules}
-use Rattle.search.proofs.Highest.{held_start, held_yes, held_no, held_none}
+use mathlib.Core.Path.{◌≡◌}
 use Rattle.search.specs.Search.{candidate, highest, held_entry}
 use Rattle.search.proofs.held_entry.Given as goal
 

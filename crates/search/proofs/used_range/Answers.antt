@@ -1,4 +1,4 @@
-use Prim.Native.Nat.{ℕ, ◌-◌, ◌%◌, ◌≤◌}
+use Prim.Native.Nat.{ℕ, ◌-◌, ◌≤◌}
 use mathlib.Core.Path.{◌≡◌, refl, ◌∙◌}
 use native.Mathlib.Omega.{arith}
 use lib.Dec.{eqb}
@@ -6,7 +6,6 @@ use lib.ListN.{get_or}
 use mathlib.Core.List.{List}
 use mathlib.Core.Bool.{false, not, ◌||◌}
 use borrow.Author.Tests.{eqb-true, not-false}
-use borrow.Author.Rules.{rules}
 use Rattle.bits.proofs.Booleans.{or_false}
 use Rattle.tables.proofs.Ranges.{end_low, end_even}
 use Rattle.search.specs.Search.{FindsEnabled}

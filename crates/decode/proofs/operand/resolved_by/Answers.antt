@@ -1,5 +1,3 @@
-use Prim.Native.Nat.{◌<◌}
-use mathlib.Core.Path.{sym, ◌∙◌}
 use borrow.Author.Rules.{rules}
 use Rattle.decode.proofs.Held.{held_below}
 use Rattle.decode.proofs.operand.resolved_by.Goals as goal

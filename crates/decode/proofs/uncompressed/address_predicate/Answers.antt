@@ -1,4 +1,3 @@
-use borrow.Author.Rules.{rules}
 use Rattle.bits.proofs.Booleans.{fails, holds}
 use Rattle.decode.proofs.uncompressed.address_predicate.Goals as goal
 

@@ -1,5 +1,4 @@
-use Prim.Native.Nat.{ℕ}
-use mathlib.Core.Path.{◌≡◌, refl, ◌∙◌, ap}
+use mathlib.Core.Path.{refl, ◌∙◌, ap}
 use Rattle.encoding.specs.Fields.{immediate, shift_amount, word_shift_amount}
 use Rattle.decode.specs.declared.decoded.SecondOperand.TheVariants.{Register, Immediate}
 use Rattle.decode.specs.Resolving.{unmasked, resolved}
@@ -13,8 +12,8 @@ pub returns-in-Register : goal.returns-in-Register
 unfolding decoded_as
 returns-in-Register c =
     let operands =
-        found c.used_range-range.ensures c.rs1-rs1.ensures c.address_predicate-address_mask.ensures c.first_key-key.ensures
-        c.predicate_by-mask.ensures c.resolved_by-one.ensures c.resolved_by-two.ensures in
+    found c.used_range-range.ensures c.rs1-rs1.ensures c.address_predicate-address_mask.ensures c.first_key-key.ensures
+    c.predicate_by-mask.ensures c.resolved_by-one.ensures c.resolved_by-two.ensures in
     let operand = resolved c.args.cfg c.args.register_table.now c.args.predicate_table.now in
     let plain = without_mask c.used_range-range.ensures _ c.resolved_by-rs2.ensures refl in
     operation_made operands _ c.in-Register.is _ (Register _) refl refl refl
@@ -24,8 +23,8 @@ pub returns-in-Immediate : goal.returns-in-Immediate
 unfolding decoded_as
 returns-in-Immediate c =
     let operands =
-        found c.used_range-range.ensures c.rs1-rs1.ensures c.address_predicate-address_mask.ensures c.first_key-key.ensures
-        c.predicate_by-mask.ensures c.resolved_by-one.ensures c.resolved_by-two.ensures in
+    found c.used_range-range.ensures c.rs1-rs1.ensures c.address_predicate-address_mask.ensures c.first_key-key.ensures
+    c.predicate_by-mask.ensures c.resolved_by-one.ensures c.resolved_by-two.ensures in
     operation_made operands _ c.in-Immediate.is _ (Immediate (immediate c.args.word)) refl refl refl
     (ap Immediate c.immediate.ensures) c.immediate-in-Immediate.ensures
 
@@ -33,8 +32,8 @@ pub returns-in-Shift : goal.returns-in-Shift
 unfolding decoded_as
 returns-in-Shift c =
     let operands =
-        found c.used_range-range.ensures c.rs1-rs1.ensures c.address_predicate-address_mask.ensures c.first_key-key.ensures
-        c.predicate_by-mask.ensures c.resolved_by-one.ensures c.resolved_by-two.ensures in
+    found c.used_range-range.ensures c.rs1-rs1.ensures c.address_predicate-address_mask.ensures c.first_key-key.ensures
+    c.predicate_by-mask.ensures c.resolved_by-one.ensures c.resolved_by-two.ensures in
     operation_made operands _ c.in-Shift.is _ (Immediate (shift_amount c.args.word)) refl refl refl
     (ap Immediate c.shift_amount.ensures) c.immediate-in-Shift.ensures
 
@@ -42,8 +41,8 @@ pub returns-in-WordShift : goal.returns-in-WordShift
 unfolding decoded_as
 returns-in-WordShift c =
     let operands =
-        found c.used_range-range.ensures c.rs1-rs1.ensures c.address_predicate-address_mask.ensures c.first_key-key.ensures
-        c.predicate_by-mask.ensures c.resolved_by-one.ensures c.resolved_by-two.ensures in
+    found c.used_range-range.ensures c.rs1-rs1.ensures c.address_predicate-address_mask.ensures c.first_key-key.ensures
+    c.predicate_by-mask.ensures c.resolved_by-one.ensures c.resolved_by-two.ensures in
     operation_made operands _ c.in-WordShift.is _ (Immediate (word_shift_amount c.args.word)) refl refl refl
     (ap Immediate c.word_shift_amount.ensures) c.immediate-in-WordShift.ensures
 
@@ -51,24 +50,24 @@ pub returns-in-Load : goal.returns-in-Load
 unfolding decoded_as
 returns-in-Load c =
     let operands =
-        found c.used_range-range.ensures c.rs1-rs1.ensures c.address_predicate-address_mask.ensures c.first_key-key.ensures
-        c.predicate_by-mask.ensures c.resolved_by-one.ensures c.resolved_by-two.ensures in
+    found c.used_range-range.ensures c.rs1-rs1.ensures c.address_predicate-address_mask.ensures c.first_key-key.ensures
+    c.predicate_by-mask.ensures c.resolved_by-one.ensures c.resolved_by-two.ensures in
     load_made operands _ c.in-Load.is _ _ refl refl refl c.load.ensures
 
 pub returns-in-LoadUnsigned : goal.returns-in-LoadUnsigned
 unfolding decoded_as
 returns-in-LoadUnsigned c =
     let operands =
-        found c.used_range-range.ensures c.rs1-rs1.ensures c.address_predicate-address_mask.ensures c.first_key-key.ensures
-        c.predicate_by-mask.ensures c.resolved_by-one.ensures c.resolved_by-two.ensures in
+    found c.used_range-range.ensures c.rs1-rs1.ensures c.address_predicate-address_mask.ensures c.first_key-key.ensures
+    c.predicate_by-mask.ensures c.resolved_by-one.ensures c.resolved_by-two.ensures in
     load_made operands _ c.in-LoadUnsigned.is _ _ refl refl refl c.load-in-LoadUnsigned.ensures
 
 pub returns-in-Store : goal.returns-in-Store
 unfolding decoded_as
 returns-in-Store c =
     let operands =
-        found c.used_range-range.ensures c.rs1-rs1.ensures c.address_predicate-address_mask.ensures c.first_key-key.ensures
-        c.predicate_by-mask.ensures c.resolved_by-one.ensures c.resolved_by-two.ensures in
+    found c.used_range-range.ensures c.rs1-rs1.ensures c.address_predicate-address_mask.ensures c.first_key-key.ensures
+    c.predicate_by-mask.ensures c.resolved_by-one.ensures c.resolved_by-two.ensures in
     let operand = resolved c.args.cfg c.args.register_table.now c.args.predicate_table.now in
     let e = c.in-Store.is in
     as_form operands _ e
@@ -78,6 +77,6 @@ pub returns-in-Unknown : goal.returns-in-Unknown
 unfolding decoded_as
 returns-in-Unknown c =
     let operands =
-        found c.used_range-range.ensures c.rs1-rs1.ensures c.address_predicate-address_mask.ensures c.first_key-key.ensures
-        c.predicate_by-mask.ensures c.resolved_by-one.ensures c.resolved_by-two.ensures in
+    found c.used_range-range.ensures c.rs1-rs1.ensures c.address_predicate-address_mask.ensures c.first_key-key.ensures
+    c.predicate_by-mask.ensures c.resolved_by-one.ensures c.resolved_by-two.ensures in
     as_form operands _ c.in-Unknown.is refl

@@ -1,5 +1,4 @@
 use mathlib.Core.Path.{sym, ◌∙◌}
-use borrow.Author.Rules.{rules}
 use Rattle.decode.specs.Decoding.{decoded_as}
 use Rattle.decode.proofs.uncompressed.uncompressed_word.Goals as goal
 

@@ -1,11 +1,10 @@
 -- After the calls stand the results, in the order of the match.
-use mathlib.Core.Path.{◌≡◌, refl, ◌∙◌}
+use mathlib.Core.Path.{refl, ◌∙◌}
 use mathlib.Core.Logic.{⊎_elim, inl, inr}
 use mathlib.Core.List.{◌++◌}
-use borrow.Author.Rules.{rules}
 use borrow.Author.Tests.{ne_eqb}
-use Rattle.encoding.specs.Listing.{funct3_rows, funct6_rows, funct7_rows, listing, first_form, form_of}
-use Rattle.encoding.proofs.Codes.{fits_code, by_code, listed}
+use Rattle.encoding.specs.Listing.{funct3_rows, funct6_rows, funct7_rows, first_form}
+use Rattle.encoding.proofs.Codes.{by_code, listed}
 use Rattle.encoding.proofs.Passed.{pass_code, Apart}
 use Rattle.bits.specs.Lists.{all}
 use Rattle.encoding.proofs.form.form_of.Goals as goal

@@ -1,10 +1,8 @@
 -- After the code stand the results, in the order of the match.
-use Prim.Native.Nat.{◌+◌, ◌*◌, ◌/◌, ◌^◌}
-use mathlib.Core.Path.{◌≡◌, sym, ◌∙◌}
+use mathlib.Core.Path.{sym, ◌∙◌}
 use mathlib.Core.List.{[]}
-use borrow.Author.Rules.{rules}
-use Rattle.encoding.specs.Listing.{funct6_rows, first_form, look_up}
-use Rattle.encoding.proofs.Codes.{fits_long, by_funct6}
+use Rattle.encoding.specs.Listing.{funct6_rows, first_form}
+use Rattle.encoding.proofs.Codes.{by_funct6}
 use Rattle.encoding.proofs.Passed.{pass_long, Apart}
 use Rattle.encoding.proofs.form.funct6_form.Goals as goal
 

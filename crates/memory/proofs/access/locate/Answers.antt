@@ -1,4 +1,3 @@
-use borrow.Author.Rules.{rules}
 use native.Mathlib.Omega.{arith}
 use Rattle.memory.proofs.Inside.{some_bytes, is_inside, is_outside}
 use Rattle.memory.proofs.access.locate.Goals as goal

@@ -1,4 +1,3 @@
-use borrow.Author.Rules.{rules}
 use native.Mathlib.Omega.{arith}
 use Rattle.memory.proofs.Number.{read_byte}
 use Rattle.memory.proofs.read.byte.Goals as goal

@@ -1,4 +1,3 @@
-use borrow.Author.Rules.{rules}
 use Rattle.memory.proofs.read.read.Goals as goal
 
 pub byte-requires : goal.byte-requires

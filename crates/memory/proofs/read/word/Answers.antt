@@ -1,4 +1,3 @@
-use borrow.Author.Rules.{rules}
 use Rattle.memory.proofs.Number.{read_join}
 use Rattle.memory.proofs.read.word.Goals as goal
 

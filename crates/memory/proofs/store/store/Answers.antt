@@ -1,4 +1,3 @@
-use borrow.Author.Rules.{rules}
 use mathlib.Core.Path.{sym, ◌∙◌}
 use native.Mathlib.Omega.{arith}
 use Rattle.memory.specs.Transfer.{store_answer, stored}
@@ -18,6 +17,6 @@ returns-in-Inside c =
 
 pub returns-in-Outside : goal.returns-in-Outside
 unfolding store_answer stored
-returns-in-Outside c = 
+returns-in-Outside c =
     let e = sym c.locate.ensures ∙ c.in-Outside.is in
     record { answer = rw e; bytes = rw e }

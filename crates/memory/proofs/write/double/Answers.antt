@@ -1,4 +1,3 @@
-use borrow.Author.Rules.{rules}
 use Rattle.memory.proofs.Written.{write_join}
 use Rattle.memory.proofs.write.double.Goals as goal
 

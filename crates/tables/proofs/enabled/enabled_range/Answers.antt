@@ -1,6 +1,5 @@
 use Prim.Native.Nat.{◌/◌, ◌%◌}
 use native.Mathlib.Omega.{arith}
-use borrow.Author.Rules.{rules}
 use Rattle.tables.proofs.Ranges.{range_none, range_some, power}
 use Rattle.tables.proofs.enabled.enabled_range.Goals as goal
 

@@ -1,4 +1,3 @@
-use borrow.Author.Rules.{rules}
 use Rattle.walk_operands.proofs.Fits.{beyond, scalar_fits, vector_fits}
 use Rattle.walk_operands.proofs.place.Place.fits.Goals as goal
 
