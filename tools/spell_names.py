@@ -16,7 +16,7 @@ import pathlib
 import re
 import sys
 
-TOKEN = re.compile(r"[A-Za-z_«»μκ][A-Za-z0-9_'«»μκ₀-₉]*(?:-[A-Za-z0-9_'«»μκ₀-₉]+)*")
+TOKEN = re.compile(r"(?<![A-Za-z0-9_])[A-Za-z_«»μκ][A-Za-z0-9_'«»μκ₀-₉]*(?:-[A-Za-z0-9_'«»μκ₀-₉]+)*")
 CAMEL = re.compile(r"(?<=[a-z0-9])(?=[A-Z])")
 # what port.py respells beyond its own library's names ('look:' of its script of names)
 PORTED_CAMEL = """atStart bitsOf bodyAt bytesOf callOf codeOf contextOf entryAt fieldsOf firstOf formOf highHalf isVector

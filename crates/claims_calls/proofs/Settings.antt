@@ -22,7 +22,7 @@ use Rattle.machine.specs.Calls.{refuse, done, guarded}
 use Rattle.machine.specs.Shape.{in_shape}
 use Rattle.machine.specs.Setting.{set_vl, set_vl_immediate, set_mvl, set_cfg, set_register_entry, set_predicate_entry}
 use Rattle.machine.specs.Setting.{set_register, set_pc, set_state_word}
-use Rattle.machine.proofs.Shapes.{parts, in_shape}
+use Rattle.machine.proofs.Shapes.{parts, in_shape-parts}
 use Rattle.claims_calls.specs.Setting.{Setting, vl, vl_immediate, mvl, cfg, register_entry, predicate_entry}
 use Rattle.claims_calls.specs.Setting.{register, pc, state_word, set, returned}
 use Rattle.bits.specs.Lists.{Among}
@@ -38,7 +38,7 @@ pub kept :
     in_shape after ≡ true
 kept m after h state zero tables =
     let p = parts m h in
-    in_shape after
+    in_shape-parts after
     (record { state = state p.state; zero_register = zero p.zero_register; tables = tables p.tables })
 
 -- a call that comes to its end is accepted

@@ -20,7 +20,7 @@ use Rattle.machine.specs.Shape.{in_shape}
 use Rattle.machine.specs.Run.{System, context_of, with_position, word_on, prepare, unit}
 use Rattle.walk_handler.proofs.Offsets.{plan_within}
 use Rattle.machine.proofs.Handled.{position_within}
-use Rattle.machine.proofs.Shapes.{parts, in_shape}
+use Rattle.machine.proofs.Shapes.{parts, in_shape-parts}
 use Rattle.claims_demands.specs.Premise.{MayWrite}
 use Rattle.claims_demands.proofs.Units.{UnitSound}
 use Rattle.claims_demands.proofs.Preparing.{Refusal, refusal, prepared_refusal}
@@ -33,9 +33,9 @@ pub position_kept :
 position_kept m h c w z =
     let p = parts m h in
     let b = bounds m.state p.state in
-    in_shape (with_position m c.registers c.position) (record {
+    in_shape-parts (with_position m c.registers c.position) (record {
       state =
-          state.in-shape (with_position m c.registers c.position).state (record {
+          state.in_shape (with_position m c.registers c.position).state (record {
             mvl_low = b.mvl_low;
             mvl_high = b.mvl_high;
             vl_low = b.vl_low;

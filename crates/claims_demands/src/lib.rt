@@ -1,1 +1,3 @@
+#![tactic(auto)]
+
 // Theorems only: what the requirements claim of runs stands in specs/.

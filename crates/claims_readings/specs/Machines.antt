@@ -12,11 +12,11 @@ use Rattle.claims_calls.specs.Copy.{after}
 
 -- ADD x5, x6, x7
 abbrev pub add : ℕ
-add = 0x007302_b3
+add = 0x007302B3
 
 -- C.MV x5, x6
 abbrev pub move : ℕ
-move = 0x829_a
+move = 0x829A
 
 -- LD x5, 8(x6)
 abbrev pub load : ℕ
@@ -37,16 +37,16 @@ base = record {
   registers = put_from 50 (1 ∷ 2 ∷ 3 ∷ 4 ∷ []) (put_from 7 (10 ∷ []) (replicate 128 0));
   pc = 0;
   state = record { mvl = 4; vl = 4; cfg = 24; source = 0; destination = 0 };
-  register_table = 0x_a885 ∷ 0x_b286 ∷ replicate 14 0;
+  register_table = 0xA885 ∷ 0xB286 ∷ replicate 14 0;
   predicate_table = replicate 16 0;
 }
 
 -- the records of the runner's stream before its run
 abbrev pub stream : List Setting
 stream =
-    call.state_word 0x180000_c3
-    ∷ call.register_entry 0 0x_a885
-    ∷ call.register_entry 1 0x_b286
+    call.state_word 0x180000C3
+    ∷ call.register_entry 0 0xA885
+    ∷ call.register_entry 1 0xB286
     ∷ call.register 7 10
     ∷ call.register 50 1
     ∷ call.register 51 2

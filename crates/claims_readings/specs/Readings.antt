@@ -52,8 +52,8 @@ pub record Readings : Type 0 where
       (positioned 4 0 0 (holding 40 (11 ∷ 9 ∷ 13 ∷ 9 ∷ []) (nines 0x2906)))
   -- with entry 2D06, 41 and 43 are 0
   pub p3 :
-      Runs add most (nines 0x2_d06) 0 0
-      (positioned 4 0 0 (holding 40 (11 ∷ 0 ∷ 13 ∷ 0 ∷ []) (nines 0x2_d06)))
+      Runs add most (nines 0x2D06) 0 0
+      (positioned 4 0 0 (holding 40 (11 ∷ 0 ∷ 13 ∷ 0 ∷ []) (nines 0x2D06)))
   -- allowance 2: paused, offsets 2 and 2, 40 and 41 are 11 and 12, 42 and 43 still 0, program counter 0
   pub p4 : Runs add 2 base 1 0 (positioned 0 2 2 (holding 40 (11 ∷ 12 ∷ 0 ∷ 0 ∷ []) base))
   -- x5 is 13, done
@@ -81,15 +81,15 @@ pub record Readings : Type 0 where
       (positioned 4 0 0
       (holding 40 (doubleword memory 24 ∷ doubleword memory 32 ∷ doubleword memory 40 ∷ []) loading))
   -- MVL 64, VL 10, offsets 3 and 5, CFG 24 is state word 1814327F hex
-  pub p10_read : Replies (read_state_word paused) 0 0x1814327_f paused
-  pub p10_set : Replies (set_state_word fresh_machine 0x1814327_f) 0 0 paused
+  pub p10_read : Replies (read_state_word paused) 0 0x1814327F paused
+  pub p10_set : Replies (set_state_word fresh_machine 0x1814327F) 0 0 paused
   -- CFG 9 enables entries 2 to 5, 15 enables 14 and 15, 31 none
   pub p11_9 : enabled_entries 9 ≡ 2 ∷ 3 ∷ 4 ∷ 5 ∷ []
   pub p11_15 : enabled_entries 15 ≡ 14 ∷ 15 ∷ []
   pub p11_31 : enabled_entries 31 ≡ []
   -- vector at 64 with VL 64 is served, at 65 answer 3: first the destination, x5, then a source, x6
-  pub p12_served : Runs add most (full 0 0x_c085) 0 0 (positioned 4 0 0 (holding 64 sums (full 0 0x_c085)))
-  pub p12_refused : Runs add most (full 0 0x_c185) 3 0 (full 0 0x_c185)
+  pub p12_served : Runs add most (full 0 0xC085) 0 0 (positioned 4 0 0 (holding 64 sums (full 0 0xC085)))
+  pub p12_refused : Runs add most (full 0 0xC185) 3 0 (full 0 0xC185)
   pub p12_source_served :
-      Runs add most (full 1 0x_c086) 0 0 (positioned 4 0 0 (holding 40 (replicate 64 10) (full 1 0x_c086)))
-  pub p12_source_refused : Runs add most (full 1 0x_c186) 3 0 (full 1 0x_c186)
+      Runs add most (full 1 0xC086) 0 0 (positioned 4 0 0 (holding 40 (replicate 64 10) (full 1 0xC086)))
+  pub p12_source_refused : Runs add most (full 1 0xC186) 3 0 (full 1 0xC186)

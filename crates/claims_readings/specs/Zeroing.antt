@@ -50,34 +50,34 @@ bytes = replicate 40 255
 abbrev pub zeroing_table : List Reading
 zeroing_table =
     -- C.MV, destination mask 0101: 1, 0, 3, 0
-    reading move most [] (masks 0x2_d06 0 0b0101 0) [] 0 0
-    (positioned 2 0 0 (holding 40 (1 ∷ 0 ∷ 3 ∷ 0 ∷ []) (masks 0x2_d06 0 0b0101 0))) []
+    reading move most [] (masks 0x2D06 0 0b0101 0) [] 0 0
+    (positioned 2 0 0 (holding 40 (1 ∷ 0 ∷ 3 ∷ 0 ∷ []) (masks 0x2D06 0 0b0101 0))) []
     -- source mask 1010: 0, 2, 0, 4
     ∷ reading move most [] (masks 0x3508 0 0 0b1010) [] 0 0
     (positioned 2 0 0 (holding 40 (0 ∷ 2 ∷ 0 ∷ 4 ∷ []) (masks 0x3508 0 0 0b1010))) []
     -- both, destination 0101 and source 0011
-    ∷ reading move most [] (masks 0x2_d06 0x3508 0b0101 0b0011) [] 0 0
-    (positioned 2 0 0 (holding 40 (1 ∷ 0 ∷ 0 ∷ 0 ∷ []) (masks 0x2_d06 0x3508 0b0101 0b0011))) []
+    ∷ reading move most [] (masks 0x2D06 0x3508 0b0101 0b0011) [] 0 0
+    (positioned 2 0 0 (holding 40 (1 ∷ 0 ∷ 0 ∷ 0 ∷ []) (masks 0x2D06 0x3508 0b0101 0b0011))) []
     -- the source mask without zeroing runs out first: position 1 is off on both sides, and 41 stays
-    ∷ reading move most [] (masks 0x2_d06 0x3108 0b0001 0b0001) [] 0 0
-    (positioned 2 0 0 (holding 40 (1 ∷ []) (masks 0x2_d06 0x3108 0b0001 0b0001))) []
+    ∷ reading move most [] (masks 0x2D06 0x3108 0b0001 0b0001) [] 0 0
+    (positioned 2 0 0 (holding 40 (1 ∷ []) (masks 0x2D06 0x3108 0b0001 0b0001))) []
     -- LD, every destination position off, no memory: done, zeros
-    ∷ reading load most [] (accesses 0x2_d06 0 0 0 16) [] 0 0
-    (positioned 4 0 0 (holding 40 (0 ∷ 0 ∷ []) (accesses 0x2_d06 0 0 0 16))) []
+    ∷ reading load most [] (accesses 0x2D06 0 0 0 16) [] 0 0
+    (positioned 4 0 0 (holding 40 (0 ∷ 0 ∷ []) (accesses 0x2D06 0 0 0 16))) []
     -- every position of the address off, at an address that no access may have
     ∷ reading load most [] (accesses 0x3508 0 0 0 17) [] 0 0
     (positioned 4 0 0 (holding 40 (0 ∷ 0 ∷ []) (accesses 0x3508 0 0 0 17))) []
     -- SD, every destination position off, no memory: 5 at address 24, nothing changed
     ∷ reading store most [] (accesses 0x3508 0 0 0 16) [] 5 24 (accesses 0x3508 0 0 0 16) []
     -- every position of the data off: the same
-    ∷ reading store most [] (accesses 0x2_d06 0 0 0 16) [] 5 24 (accesses 0x2_d06 0 0 0 16) []
+    ∷ reading store most [] (accesses 0x2D06 0 0 0 16) [] 5 24 (accesses 0x2D06 0 0 0 16) []
     -- at an address that isn't divisible by 8: 9
     ∷ reading store most [] (accesses 0x3508 0 0 0 17) bytes 9 25 (accesses 0x3508 0 0 0 17) bytes
     -- with memory, zero bytes of the access width; with less, up to the element that fails
     ∷ reading store most [] (accesses 0x3508 0 0 0 16) bytes 0 0 (positioned 4 0 0 (accesses 0x3508 0 0 0 16))
     (replicate 24 255 ++ replicate 16 0)
-    ∷ reading store most [] (accesses 0x2_d06 0 0 0 16) (replicate 39 255) 5 32
-    (positioned 0 1 1 (accesses 0x2_d06 0 0 0 16)) (replicate 24 255 ++ replicate 8 0 ++ replicate 7 255)
+    ∷ reading store most [] (accesses 0x2D06 0 0 0 16) (replicate 39 255) 5 32
+    (positioned 0 1 1 (accesses 0x2D06 0 0 0 16)) (replicate 24 255 ++ replicate 8 0 ++ replicate 7 255)
     -- a load into a scalar ends on a zero: x5 is 0
     ∷ reading load most [] (scalars 0x3508 0 0 0b10) [] 0 0 (positioned 4 0 0 (holding 5 (0 ∷ []) (scalars 0x3508 0 0 0b10)))
     []
@@ -89,20 +89,20 @@ zeroing_table =
     (positioned 2 0 0
     (holding 40 (7 ∷ 7 ∷ 7 ∷ 7 ∷ []) (tagged 1 0 (holding 6 (7 ∷ []) (masks 0x3508 0 0 0))))) []
     -- a paused run, cut in each place
-    ∷ reading move 1 [] (masks 0x2_d06 0x3508 0b0101 0b0110) [] 1 0
-    (positioned 0 1 1 (holding 40 (0 ∷ []) (masks 0x2_d06 0x3508 0b0101 0b0110))) []
-    ∷ reading move 2 [] (masks 0x2_d06 0x3508 0b0101 0b0110) [] 1 0
-    (positioned 0 2 2 (holding 40 (0 ∷ 0 ∷ []) (masks 0x2_d06 0x3508 0b0101 0b0110))) []
-    ∷ reading move 3 [] (masks 0x2_d06 0x3508 0b0101 0b0110) [] 1 0
-    (positioned 0 3 3 (holding 40 (0 ∷ 0 ∷ 3 ∷ []) (masks 0x2_d06 0x3508 0b0101 0b0110))) []
-    ∷ reading move 1 (3 ∷ []) (masks 0x2_d06 0x3508 0b0101 0b0110) [] 0 0
-    (positioned 2 0 0 (holding 40 (0 ∷ 0 ∷ 3 ∷ 0 ∷ []) (masks 0x2_d06 0x3508 0b0101 0b0110))) []
-    ∷ reading move 2 (2 ∷ []) (masks 0x2_d06 0x3508 0b0101 0b0110) [] 0 0
-    (positioned 2 0 0 (holding 40 (0 ∷ 0 ∷ 3 ∷ 0 ∷ []) (masks 0x2_d06 0x3508 0b0101 0b0110))) []
-    ∷ reading move 3 (1 ∷ []) (masks 0x2_d06 0x3508 0b0101 0b0110) [] 0 0
-    (positioned 2 0 0 (holding 40 (0 ∷ 0 ∷ 3 ∷ 0 ∷ []) (masks 0x2_d06 0x3508 0b0101 0b0110))) []
-    ∷ reading move 1 (1 ∷ 1 ∷ 1 ∷ []) (masks 0x2_d06 0x3508 0b0101 0b0110) [] 0 0
-    (positioned 2 0 0 (holding 40 (0 ∷ 0 ∷ 3 ∷ 0 ∷ []) (masks 0x2_d06 0x3508 0b0101 0b0110))) []
+    ∷ reading move 1 [] (masks 0x2D06 0x3508 0b0101 0b0110) [] 1 0
+    (positioned 0 1 1 (holding 40 (0 ∷ []) (masks 0x2D06 0x3508 0b0101 0b0110))) []
+    ∷ reading move 2 [] (masks 0x2D06 0x3508 0b0101 0b0110) [] 1 0
+    (positioned 0 2 2 (holding 40 (0 ∷ 0 ∷ []) (masks 0x2D06 0x3508 0b0101 0b0110))) []
+    ∷ reading move 3 [] (masks 0x2D06 0x3508 0b0101 0b0110) [] 1 0
+    (positioned 0 3 3 (holding 40 (0 ∷ 0 ∷ 3 ∷ []) (masks 0x2D06 0x3508 0b0101 0b0110))) []
+    ∷ reading move 1 (3 ∷ []) (masks 0x2D06 0x3508 0b0101 0b0110) [] 0 0
+    (positioned 2 0 0 (holding 40 (0 ∷ 0 ∷ 3 ∷ 0 ∷ []) (masks 0x2D06 0x3508 0b0101 0b0110))) []
+    ∷ reading move 2 (2 ∷ []) (masks 0x2D06 0x3508 0b0101 0b0110) [] 0 0
+    (positioned 2 0 0 (holding 40 (0 ∷ 0 ∷ 3 ∷ 0 ∷ []) (masks 0x2D06 0x3508 0b0101 0b0110))) []
+    ∷ reading move 3 (1 ∷ []) (masks 0x2D06 0x3508 0b0101 0b0110) [] 0 0
+    (positioned 2 0 0 (holding 40 (0 ∷ 0 ∷ 3 ∷ 0 ∷ []) (masks 0x2D06 0x3508 0b0101 0b0110))) []
+    ∷ reading move 1 (1 ∷ 1 ∷ 1 ∷ []) (masks 0x2D06 0x3508 0b0101 0b0110) [] 0 0
+    (positioned 2 0 0 (holding 40 (0 ∷ 0 ∷ 3 ∷ 0 ∷ []) (masks 0x2D06 0x3508 0b0101 0b0110))) []
     ∷ []
 
 abbrev pub ZeroingReadings : Type 0

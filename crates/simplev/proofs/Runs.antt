@@ -10,7 +10,7 @@ use Rattle.decode.specs.Decoding.{decoded, sources_unmasked}
 use Rattle.state_word.specs.declared.State.{State}
 use Rattle.walk_operations.specs.Context.{Context, context}
 use Rattle.walk_handler.specs.Unit.{handled}
-use Rattle.walk_handler.proofs.Sources.{sources_unmasked}
+use Rattle.walk_handler.proofs.Sources.{handled-sources_unmasked}
 use Rattle.machine.specs.Shape.{in_shape}
 use Rattle.machine.specs.Run.{System, with_context, run}
 use Rattle.machine.proofs.Handled.{put_back, run_handled, run_refused}
@@ -31,4 +31,4 @@ module _ (word n : ℕ) (s : System) {a v : ℕ} where
       (record { pc = s.machine.pc; source = read.source; destination = read.destination })) →
       Says o.answer a v → Leaves (run word n s) a v (with_context s o.state)
   leaves_run read d o h same e ran said =
-      leaves (ap (put_back s) (ran ∙ rw (e, sources_unmasked, same)) ∙ sym (run_handled word n s h)) said
+      leaves (ap (put_back s) (ran ∙ rw (e, handled-sources_unmasked, same)) ∙ sym (run_handled word n s h)) said

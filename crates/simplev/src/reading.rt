@@ -126,6 +126,7 @@ pub extern "C" fn simplev_read_state_word<'a>(
 }
 
 #[unsafe(no_mangle)]
+#[tactic(auto, unfolding(machine::specs::Reading::read_register, simplev_arrays::specs::Layout::element_at))]
 pub extern "C" fn simplev_read_register<'a>(
     registers: &'a [u64; REGISTERS],
     control: &'a [u64; CONTROL_WORDS],
@@ -151,6 +152,7 @@ pub extern "C" fn simplev_read_register<'a>(
 }
 
 #[unsafe(no_mangle)]
+#[tactic(auto, unfolding(machine::specs::Reading::read_register_entry, simplev_arrays::specs::Layout::element_at))]
 pub extern "C" fn simplev_read_register_entry<'a>(
     registers: &'a [u64; REGISTERS],
     control: &'a [u64; CONTROL_WORDS],
@@ -176,6 +178,7 @@ pub extern "C" fn simplev_read_register_entry<'a>(
 }
 
 #[unsafe(no_mangle)]
+#[tactic(auto, unfolding(machine::specs::Reading::read_predicate_entry, simplev_arrays::specs::Layout::element_at))]
 pub extern "C" fn simplev_read_predicate_entry<'a>(
     registers: &'a [u64; REGISTERS],
     control: &'a [u64; CONTROL_WORDS],

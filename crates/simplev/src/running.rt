@@ -2,7 +2,7 @@
 ghost use Rattle.std.specs.Prelude.{◌≡◌};
 ghost use Rattle.machine.specs.Shape.{fresh_machine};
 ghost use Rattle.machine.specs.Run.{system, run, step};
-ghost use Rattle.simplev_arrays.specs.Layout.{machine_in};
+ghost use Rattle.simplev_arrays.specs.Layout.{machine_of};
 ghost use Rattle.simplev_arrays.specs.Leaves.{Leaves};
 
 use answers::Answer;
@@ -20,7 +20,7 @@ pub extern "C" fn simplev_fresh(
     register_table: &mut [u16; ENTRIES],
     predicate_table: &mut [u16; ENTRIES],
 )
-    ensures { machine_in registers.exit control.exit register_table.exit predicate_table.exit ≡ fresh_machine }
+    ensures { machine_of registers.new control.new register_table.new predicate_table.new ≡ fresh_machine }
 {
     *registers = [0; REGISTERS];
     *control = [0, 1, 1, 24, 0, 0];
@@ -40,8 +40,8 @@ pub extern "C" fn simplev_run<'a>(
     memory: &mut [u8],
     address: &mut u64,
 ) -> u32
-    ensures { let m = machine_in registers.entry control.entry register_table.entry predicate_table.entry in
-        let after = machine_in registers.exit control.exit register_table.entry predicate_table.entry in
+    ensures { let m = machine_of registers.old control.old register_table.now predicate_table.now in
+        let after = machine_of registers.new control.new register_table.now predicate_table.now in
         Leaves (run word allowance (system m memory.old)) result address.new
         (system after memory.new) }
 {
@@ -80,8 +80,8 @@ pub extern "C" fn simplev_step<'a>(
     memory: &mut [u8],
     address: &mut u64,
 ) -> u32
-    ensures { let m = machine_in registers.entry control.entry register_table.entry predicate_table.entry in
-        let after = machine_in registers.exit control.exit register_table.entry predicate_table.entry in
+    ensures { let m = machine_of registers.old control.old register_table.now predicate_table.now in
+        let after = machine_of registers.new control.new register_table.now predicate_table.now in
         Leaves (step word (system m memory.old)) result address.new
         (system after memory.new) }
 {

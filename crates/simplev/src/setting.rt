@@ -2,7 +2,7 @@
 ghost use Rattle.std.specs.Prelude.{◌<◌, ◌≡◌, set};
 ghost use Rattle.machine.specs.Setting.{set_vl, set_vl_immediate, set_mvl, set_cfg, set_state_word, set_pc};
 ghost use Rattle.machine.specs.Setting.{set_register, set_register_entry, set_predicate_entry};
-ghost use Rattle.simplev_arrays.specs.Layout.{machine_in};
+ghost use Rattle.simplev_arrays.specs.Layout.{machine_of};
 ghost use Rattle.simplev_arrays.specs.Leaves.{Replies};
 
 use answers::{Answer, valid};
@@ -23,6 +23,7 @@ fn put_entry(entries: &mut [u16; ENTRIES], index: u32, entry: u16)
 
 // Plain form: n from 1.
 #[unsafe(no_mangle)]
+#[tactic(auto, unfolding(machine::specs::Setting::set_vl))]
 pub extern "C" fn simplev_set_vl<'a>(
     registers: &'a [u64; REGISTERS],
     control: &mut [u64; CONTROL_WORDS],
@@ -31,8 +32,8 @@ pub extern "C" fn simplev_set_vl<'a>(
     n: u64,
     value: &mut u64,
 ) -> u32
-    ensures { let m = machine_in registers.entry control.entry register_table.entry predicate_table.entry in
-        let after = machine_in registers.entry control.exit register_table.entry predicate_table.entry in
+    ensures { let m = machine_of registers.now control.old register_table.now predicate_table.now in
+        let after = machine_of registers.now control.new register_table.now predicate_table.now in
         Replies (set_vl m n) result value.new after }
 {
     set_vl(
@@ -48,6 +49,7 @@ pub extern "C" fn simplev_set_vl<'a>(
 
 // Immediate form: n from 0 to 31 stands for n + 1.
 #[unsafe(no_mangle)]
+#[tactic(auto, unfolding(machine::specs::Setting::set_vl_immediate))]
 pub extern "C" fn simplev_set_vl_immediate<'a>(
     registers: &'a [u64; REGISTERS],
     control: &mut [u64; CONTROL_WORDS],
@@ -56,8 +58,8 @@ pub extern "C" fn simplev_set_vl_immediate<'a>(
     n: u32,
     value: &mut u64,
 ) -> u32
-    ensures { let m = machine_in registers.entry control.entry register_table.entry predicate_table.entry in
-        let after = machine_in registers.entry control.exit register_table.entry predicate_table.entry in
+    ensures { let m = machine_of registers.now control.old register_table.now predicate_table.now in
+        let after = machine_of registers.now control.new register_table.now predicate_table.now in
         Replies (set_vl_immediate m n) result value.new after }
 {
     set_vl(
@@ -73,6 +75,7 @@ pub extern "C" fn simplev_set_vl_immediate<'a>(
 
 // VL is cut to the new MVL, and both offsets become 0.
 #[unsafe(no_mangle)]
+#[tactic(auto, unfolding(machine::specs::Setting::set_mvl))]
 pub extern "C" fn simplev_set_mvl<'a>(
     registers: &'a [u64; REGISTERS],
     control: &mut [u64; CONTROL_WORDS],
@@ -81,8 +84,8 @@ pub extern "C" fn simplev_set_mvl<'a>(
     n: u32,
     value: &mut u64,
 ) -> u32
-    ensures { let m = machine_in registers.entry control.entry register_table.entry predicate_table.entry in
-        let after = machine_in registers.entry control.exit register_table.entry predicate_table.entry in
+    ensures { let m = machine_of registers.now control.old register_table.now predicate_table.now in
+        let after = machine_of registers.now control.new register_table.now predicate_table.now in
         Replies (set_mvl m n) result value.new after }
 {
     let pc = control[PC];
@@ -103,6 +106,7 @@ pub extern "C" fn simplev_set_mvl<'a>(
 
 // 0 to 31.
 #[unsafe(no_mangle)]
+#[tactic(auto, unfolding(machine::specs::Setting::set_cfg))]
 pub extern "C" fn simplev_set_cfg<'a>(
     registers: &'a [u64; REGISTERS],
     control: &mut [u64; CONTROL_WORDS],
@@ -111,8 +115,8 @@ pub extern "C" fn simplev_set_cfg<'a>(
     n: u32,
     value: &mut u64,
 ) -> u32
-    ensures { let m = machine_in registers.entry control.entry register_table.entry predicate_table.entry in
-        let after = machine_in registers.entry control.exit register_table.entry predicate_table.entry in
+    ensures { let m = machine_of registers.now control.old register_table.now predicate_table.now in
+        let after = machine_of registers.now control.new register_table.now predicate_table.now in
         Replies (set_cfg m n) result value.new after }
 {
     let pc = control[PC];
@@ -133,6 +137,7 @@ pub extern "C" fn simplev_set_cfg<'a>(
 
 // MVL, VL cut to it, offsets and CFG in one word.
 #[unsafe(no_mangle)]
+#[tactic(auto, unfolding(machine::specs::Setting::set_state_word))]
 pub extern "C" fn simplev_set_state_word<'a>(
     registers: &'a [u64; REGISTERS],
     control: &mut [u64; CONTROL_WORDS],
@@ -141,8 +146,8 @@ pub extern "C" fn simplev_set_state_word<'a>(
     word: u32,
     value: &mut u64,
 ) -> u32
-    ensures { let m = machine_in registers.entry control.entry register_table.entry predicate_table.entry in
-        let after = machine_in registers.entry control.exit register_table.entry predicate_table.entry in
+    ensures { let m = machine_of registers.now control.old register_table.now predicate_table.now in
+        let after = machine_of registers.now control.new register_table.now predicate_table.now in
         Replies (set_state_word m word) result value.new after }
 {
     let pc = control[PC];
@@ -162,6 +167,7 @@ pub extern "C" fn simplev_set_state_word<'a>(
 
 // Every program counter is good.
 #[unsafe(no_mangle)]
+#[tactic(auto, unfolding(machine::specs::Setting::set_pc))]
 pub extern "C" fn simplev_set_pc<'a>(
     registers: &'a [u64; REGISTERS],
     control: &mut [u64; CONTROL_WORDS],
@@ -170,8 +176,8 @@ pub extern "C" fn simplev_set_pc<'a>(
     pc: u64,
     value: &mut u64,
 ) -> u32
-    ensures { let m = machine_in registers.entry control.entry register_table.entry predicate_table.entry in
-        let after = machine_in registers.entry control.exit register_table.entry predicate_table.entry in
+    ensures { let m = machine_of registers.now control.old register_table.now predicate_table.now in
+        let after = machine_of registers.now control.new register_table.now predicate_table.now in
         Replies (set_pc m pc) result value.new after }
 {
     let state = state_of(control);
@@ -190,6 +196,7 @@ pub extern "C" fn simplev_set_pc<'a>(
 
 // A write to register 0 is accepted, and vanishes.
 #[unsafe(no_mangle)]
+#[tactic(auto, unfolding(machine::specs::Setting::set_register))]
 pub extern "C" fn simplev_set_register<'a>(
     registers: &mut [u64; REGISTERS],
     control: &'a [u64; CONTROL_WORDS],
@@ -199,8 +206,8 @@ pub extern "C" fn simplev_set_register<'a>(
     value_in: u64,
     value: &mut u64,
 ) -> u32
-    ensures { let m = machine_in registers.entry control.entry register_table.entry predicate_table.entry in
-        let after = machine_in registers.exit control.entry register_table.entry predicate_table.entry in
+    ensures { let m = machine_of registers.old control.now register_table.now predicate_table.now in
+        let after = machine_of registers.new control.now register_table.now predicate_table.now in
         Replies (set_register m index value_in) result value.new after }
 {
     let answer = guarded(
@@ -222,6 +229,7 @@ pub extern "C" fn simplev_set_register<'a>(
 
 // Every entry is good.
 #[unsafe(no_mangle)]
+#[tactic(auto, unfolding(machine::specs::Setting::set_register_entry))]
 pub extern "C" fn simplev_set_register_entry<'a>(
     registers: &'a [u64; REGISTERS],
     control: &'a [u64; CONTROL_WORDS],
@@ -231,8 +239,8 @@ pub extern "C" fn simplev_set_register_entry<'a>(
     entry: u16,
     value: &mut u64,
 ) -> u32
-    ensures { let m = machine_in registers.entry control.entry register_table.entry predicate_table.entry in
-        let after = machine_in registers.entry control.entry register_table.exit predicate_table.entry in
+    ensures { let m = machine_of registers.now control.now register_table.old predicate_table.now in
+        let after = machine_of registers.now control.now register_table.new predicate_table.now in
         Replies (set_register_entry m index entry) result value.new after }
 {
     let answer = guarded(
@@ -254,6 +262,7 @@ pub extern "C" fn simplev_set_register_entry<'a>(
 
 // An entry with bit 0 set is a bad value.
 #[unsafe(no_mangle)]
+#[tactic(auto, unfolding(machine::specs::Setting::set_predicate_entry))]
 pub extern "C" fn simplev_set_predicate_entry<'a>(
     registers: &'a [u64; REGISTERS],
     control: &'a [u64; CONTROL_WORDS],
@@ -263,8 +272,8 @@ pub extern "C" fn simplev_set_predicate_entry<'a>(
     entry: u16,
     value: &mut u64,
 ) -> u32
-    ensures { let m = machine_in registers.entry control.entry register_table.entry predicate_table.entry in
-        let after = machine_in registers.entry control.entry register_table.entry predicate_table.exit in
+    ensures { let m = machine_of registers.now control.now register_table.now predicate_table.old in
+        let after = machine_of registers.now control.now register_table.now predicate_table.new in
         Replies (set_predicate_entry m index entry) result value.new after }
 {
     let answer = guarded(

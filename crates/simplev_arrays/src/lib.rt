@@ -1,3 +1,5 @@
+#![tactic(auto)]
+
 // A machine in four arrays that the caller lends: what the calls on them share.
 ghost use Rattle.std.specs.Prelude.{◌≡◌, true, length};
 ghost use Rattle.machine.specs.Shape.{in_shape, Sized};
@@ -30,6 +32,7 @@ pub const DESTINATION: usize = 5;
 pub const CONTROL_WORDS: usize = 6;
 
 // Whether none of the reasons of answer 6 applies. An offset below VL says that VL isn't 0.
+#[tactic(auto, unfolding(state_word::specs::State::state_in_shape, machine::specs::Shape::in_shape, machine::specs::Shape::room_in_shape, machine::specs::Shape::tables_in_shape))]
 pub fn in_shape<'a>(
     registers: &'a [u64; REGISTERS],
     control: &'a [u64; CONTROL_WORDS],
@@ -104,6 +107,7 @@ pub fn entry_at(entries: &[u16; ENTRIES], index: u32) -> u16
 }
 
 // MVL, VL, CFG and the offsets: of each the low 32 bits, which are all of a word in range.
+#[tactic(auto, unfolding(crate::specs::Layout::low_bits))]
 pub fn state_of(control: &[u64; CONTROL_WORDS]) -> State
     ensures { result ≡ low_bits (state_of control.now) }
 {

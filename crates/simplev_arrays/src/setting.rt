@@ -3,7 +3,7 @@ ghost use Rattle.std.specs.Prelude.{true};
 ghost use Rattle.machine.specs.Calls.{done, guarded};
 ghost use Rattle.machine.specs.Setting.{vl_set};
 ghost use Rattle.machine.specs.Update.{with_pc, with_state};
-ghost use Rattle.simplev_arrays.specs.Layout.{machine_in};
+ghost use Rattle.simplev_arrays.specs.Layout.{machine_of};
 ghost use Rattle.simplev_arrays.specs.Leaves.{Replies};
 
 use crate::{CONTROL_WORDS, PC, guarded, state_of};
@@ -24,8 +24,8 @@ pub fn set_control<'a>(
     res: u64,
     value: &mut u64,
 ) -> u32
-    ensures { let m = machine_in registers.entry control.entry register_table.entry predicate_table.entry in
-        let after = machine_in registers.entry control.exit register_table.entry predicate_table.entry in
+    ensures { let m = machine_of registers.now control.old register_table.now predicate_table.now in
+        let after = machine_of registers.now control.new register_table.now predicate_table.now in
         Replies (guarded m true own (done (with_state (with_pc m pc) state) res)) result value.new after }
 {
     let answer = guarded(
@@ -62,8 +62,8 @@ pub fn set_vl<'a>(
     n: u64,
     value: &mut u64,
 ) -> u32
-    ensures { let m = machine_in registers.entry control.entry register_table.entry predicate_table.entry in
-        let after = machine_in registers.entry control.exit register_table.entry predicate_table.entry in
+    ensures { let m = machine_of registers.now control.old register_table.now predicate_table.now in
+        let after = machine_of registers.now control.new register_table.now predicate_table.now in
         Replies (guarded m true own (vl_set m n)) result value.new after }
 {
     let pc = control[PC];

@@ -1,3 +1,5 @@
+#![tactic(auto)]
+
 // A whole stream in one call: its bytes in, the text that it prints out.
 ghost use Rattle.std.specs.Prelude.{◌≡◌};
 ghost use Rattle.stream_feed.specs.Feed.{text_out};

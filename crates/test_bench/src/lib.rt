@@ -1,3 +1,5 @@
+#![tactic(auto)]
+
 // The run call as C calls it, for the benchmark: the machine by value, in and out.
 ghost use Rattle.std.specs.Prelude.{◌≡◌};
 ghost use Rattle.machine.specs.Run.{system, run};

@@ -1,0 +1,13 @@
+use borrow.Author.Rules.{rules}
+use Rattle.machine.specs.Setting.{set_cfg}
+use Rattle.machine.proofs.Shapes.{parts}
+use Rattle.simplev_arrays.proofs.Arrays.{all_bits}
+use Rattle.simplev_arrays.proofs.Leaves.{replies_same}
+use Rattle.simplev.proofs.setting.simplev_set_cfg.Goals as goal
+
+pub returns : goal.returns
+unfolding set_cfg
+returns c =
+    let old = c in
+    rw (← c.valid.ensures) (replies_same _ _ _ _ _ c.set_control.ensures
+    (λ shaped there. rw (all_bits old.state_of-state.ensures (parts _ shaped).state)))
