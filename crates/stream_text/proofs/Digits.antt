@@ -35,9 +35,6 @@ module _ (n : ℕ) where
   unfolding decimal
   one_digit h = few n n h
 
-  pub no_more_digits : n < 10 → length (decimal n) ≡ 1
-  no_more_digits h = ap length (one_digit h)
-
   pub last_digit : 10 ≤ n → decimal n ≡ decimal (n / 10) ++ digit (n % 10) ∷ []
   unfolding decimal digits
   last_digit h =
@@ -67,4 +64,4 @@ pub most_digits : (k n : ℕ) → n < 10 ^ suc k → length (decimal n) ≤ suc 
 unfolding decimal
 most_digits k n h = at_most n k n h
 
-pub ruleset digit_laws = (one_digit, no_more_digits, last_digit, more_digits)
+pub ruleset digit_laws = (one_digit, last_digit, more_digits)

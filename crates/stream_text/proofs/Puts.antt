@@ -85,4 +85,4 @@ put_over {old} {text} p h =
 pub put_next : {old new text : List ℕ} {next : ℕ} → Put old 0 text new next → next ≡ length text
 put_next p = omega (arith, p.end)
 
-pub ruleset put_laws = (put_none, put_byte, put_length, register_more)
+pub ruleset put_laws = (put_none, put_byte)

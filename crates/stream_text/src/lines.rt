@@ -16,7 +16,6 @@ fn put_number(out: &mut [u8], at: usize, n: u64, after: u8) -> usize
     end + 1
 }
 
-#[tactic(auto, using(crate::proofs::Puts::put_laws))]
 fn put_bytes(out: &mut [u8], at: usize, bytes: &[u8]) -> usize
     requires { at + length bytes.now ≤ length out.old }
     ensures { Put out.old at bytes.now out.new result }
@@ -30,7 +29,7 @@ fn put_bytes(out: &mut [u8], at: usize, bytes: &[u8]) -> usize
 }
 
 // Two numbers with a space between, and a byte after them.
-#[tactic(auto, using(crate::proofs::Puts::put_laws))]
+
 fn put_pair(out: &mut [u8], at: usize, first: u64, second: u64, after: u8) -> usize
     requires { at + length (decimal first) + length (decimal second) + 2 ≤ length out.old }
     ensures { Put out.old at (number_then first space ++ number_then second after) out.new result }
@@ -90,7 +89,7 @@ pub fn put_register(out: &mut [u8], at: usize, index: usize, value: u64) -> usiz
 }
 
 // A register that is 0 has no line.
-#[tactic(auto, using(crate::proofs::Puts::put_laws), unfolding(crate::specs::Lines::nonzero_line))]
+#[tactic(auto, unfolding(crate::specs::Lines::nonzero_line))]
 fn put_nonzero(out: &mut [u8], at: usize, index: usize, value: u64) -> usize
     requires { (index < 1000) × (at + 26 ≤ length out.old) }
     ensures { Put out.old at (nonzero_line index value) out.new result × (result ≤ at + 26) }
@@ -102,7 +101,7 @@ fn put_nonzero(out: &mut [u8], at: usize, index: usize, value: u64) -> usize
 }
 
 // Every register that is not 0, rising.
-#[tactic(auto, using(crate::proofs::Puts::put_laws), unfolding(crate::specs::Lines::lines_below))]
+#[tactic(auto, unfolding(crate::specs::Lines::lines_below))]
 pub fn put_registers(out: &mut [u8], at: usize, registers: &[u64; 128]) -> usize
     requires { at + 3328 ≤ length out.old }
     ensures { Put out.old at (lines_below registers.now 128) out.new result × (result ≤ at + 3328) }
