@@ -1,5 +1,5 @@
 -- Readings of zeroing on moves, loads and stores: a table, of which every row holds.
-use Rattle.std.specs.Prelude.{ℕ, List, [], ◌∷◌, ◌++◌, set, replicate}
+use Rattle.std.specs.Prelude.{ℕ, List, [], ◌∷◌, ◌++◌, replicate}
 use Rattle.walk_pausable.specs.Call.{NextCall}
 use Rattle.machine.specs.declared.Machine.{Machine}
 use Rattle.machine.specs.Run.{system}

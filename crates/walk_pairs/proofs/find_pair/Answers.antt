@@ -1,8 +1,4 @@
-use Rattle.std.proofs.Common.{◌≡◌, false, cond, sym, ◌∙◌}
-use Rattle.bits.proofs.Booleans.{fails, holds}
-use Rattle.walk_operands.specs.Mask.{is_on}
-use Rattle.walk_pairs.specs.declared.Pair.TheVariants.{Found, Zeroed}
-use Rattle.walk_pairs.specs.Pair.{pair_from}
+use Rattle.std.proofs.Common.{false, sym, ◌∙◌}
 use Rattle.walk_pairs.proofs.Skipping.{rests_on}
 use Rattle.walk_pairs.proofs.Skipping.{next_past, source_ends, destination_ends, both_rest}
 use Rattle.walk_pairs.proofs.Noting.{Noted, noted_on, noted_next, noted_zeroing, noted_still, noted_pair}

@@ -1,4 +1,3 @@
-use borrow.Author.Rules.{rules}
 use Rattle.machine.specs.Reading.{read_predicate_entry}
 use Rattle.machine.proofs.Machine.read_predicate_entry.Goals as goal
 

@@ -1,4 +1,3 @@
-use borrow.Author.Rules.{rules}
 use Rattle.machine.specs.Reading.{read_register}
 use Rattle.machine.proofs.Machine.read_register.Goals as goal
 

@@ -1,4 +1,3 @@
-use borrow.Author.Rules.{rules}
 use Rattle.machine.specs.Reading.{read_register_entry}
 use Rattle.machine.proofs.Machine.read_register_entry.Goals as goal
 

@@ -1,5 +1,4 @@
 use mathlib.Core.Path.{sym, ◌∙◌}
-use borrow.Author.Rules.{rules}
 use Rattle.machine.proofs.Handled.{run_refused}
 use Rattle.machine.proofs.Machine.run.Goals as goal
 

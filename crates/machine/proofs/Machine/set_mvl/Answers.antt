@@ -1,4 +1,3 @@
-use borrow.Author.Rules.{rules}
 use Rattle.machine.specs.Setting.{set_mvl}
 use Rattle.machine.proofs.Machine.set_mvl.Goals as goal
 

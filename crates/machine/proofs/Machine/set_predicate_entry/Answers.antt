@@ -1,4 +1,3 @@
-use borrow.Author.Rules.{rules}
 use native.Mathlib.Nat.{div-one}
 use Rattle.machine.specs.Setting.{set_predicate_entry}
 use Rattle.machine.proofs.Machine.set_predicate_entry.Goals as goal

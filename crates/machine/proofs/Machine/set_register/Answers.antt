@@ -1,4 +1,3 @@
-use borrow.Author.Rules.{rules}
 use Rattle.machine.specs.Setting.{set_register}
 use Rattle.machine.proofs.Machine.set_register.Goals as goal
 

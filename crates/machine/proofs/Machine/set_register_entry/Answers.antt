@@ -1,4 +1,3 @@
-use borrow.Author.Rules.{rules}
 use Rattle.machine.specs.Setting.{set_register_entry}
 use Rattle.machine.proofs.Machine.set_register_entry.Goals as goal
 

@@ -1,4 +1,3 @@
-use borrow.Author.Rules.{rules}
 use Rattle.machine.specs.Setting.{set_state_word}
 use Rattle.machine.proofs.Machine.set_state_word.Goals as goal
 

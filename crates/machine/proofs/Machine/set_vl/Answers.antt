@@ -1,4 +1,3 @@
-use borrow.Author.Rules.{rules}
 use Rattle.machine.specs.Setting.{set_vl}
 use Rattle.machine.proofs.Machine.set_vl.Goals as goal
 

@@ -1,4 +1,3 @@
-use borrow.Author.Rules.{rules}
 use Rattle.machine.specs.Setting.{set_vl_immediate}
 use Rattle.machine.proofs.Machine.set_vl_immediate.Goals as goal
 

@@ -1,5 +1,4 @@
 use native.Mathlib.Nat.{mod-one}
-use Rattle.std.proofs.Common.{rules}
 use Rattle.walk_accesses.specs.Alignment.{aligned}
 use Rattle.walk_accesses.proofs.alignment.aligned.Goals as goal
 

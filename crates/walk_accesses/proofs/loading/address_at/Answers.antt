@@ -1,9 +1,8 @@
-use Rattle.std.proofs.Common.{◌≡◌, ℕ, ◌+◌, ◌%◌, ◌^◌, ◌<◌, false, sym, ap, ◌∙◌, add_assoc, rules}
+use Rattle.std.proofs.Common.{◌≡◌, ℕ, ◌+◌, ◌%◌, ◌^◌, false, sym, ap, ◌∙◌, add_assoc, rules}
 use native.Mathlib.Nat.{add-mod-mod}
 use Rattle.walk_operands.specs.declared.place.Place.{Place}
 use Rattle.walk_operands.specs.Place.{register_at}
 use Rattle.walk_accesses.specs.Loading.{address_at}
-use Rattle.walk_accesses.proofs.Elements.{stride_fits}
 use Rattle.walk_accesses.proofs.loading.address_at.Goals as goal
 
 pub returns-then-place : goal.returns-then-place

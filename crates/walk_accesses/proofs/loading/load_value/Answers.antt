@@ -1,4 +1,4 @@
-use Rattle.std.proofs.Common.{sym, ◌∙◌, rules}
+use Rattle.std.proofs.Common.{sym, ◌∙◌}
 use Rattle.walk_accesses.proofs.Doubles.{same_double}
 use Rattle.walk_accesses.proofs.loading.load_value.Goals as goal
 

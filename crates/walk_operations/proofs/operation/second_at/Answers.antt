@@ -12,5 +12,5 @@ bounds-registers-at c =
 pub offset_bounds-registers-at : goal.offset_bounds-registers-at
 offset_bounds-registers-at c =
     let below : c.at.result < 128 =
-        rw c.at.ensures (register_at-below _ _ _ _ c.in-Register.is c.requires.0 c.requires.1) in
+    rw c.at.ensures (register_at-below _ _ _ _ c.in-Register.is c.requires.0 c.requires.1) in
     search (rules, below)

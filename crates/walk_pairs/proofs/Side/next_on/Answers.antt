@@ -1,4 +1,4 @@
-use Rattle.std.proofs.Common.{◌+◌, ◌-◌, sym, refl, ◌∙◌, arith}
+use Rattle.std.proofs.Common.{◌+◌, ◌-◌, sym, ◌∙◌, arith}
 use Rattle.walk_pairs.proofs.Halving.{even_halved, at_odd, at_end, next_half, on_odd}
 use Rattle.walk_pairs.proofs.Side.next_on.Goals as goal
 

@@ -1,8 +1,6 @@
-use Prim.Native.Nat.{◌+◌, ◌-◌, ◌≤◌}
-use mathlib.Core.Path.{◌≡◌, refl, sym, ◌∙◌}
-use native.Mathlib.Omega.{arith}
-use borrow.Author.Rules.{rules}
-use Rattle.walk_pairs.proofs.Halving.{first_odd, even_halved, at_odd, at_end, next_half, on_odd}
+use Prim.Native.Nat.{◌-◌, ◌≤◌}
+use mathlib.Core.Path.{◌≡◌}
+use Rattle.walk_pairs.proofs.Halving.{first_odd}
 use Rattle.walk_pairs.proofs.Side.next_on.Given as goal
 
 abbrev pub invariant-loop-rest : goal.invariant-loop-rest

@@ -1,5 +1,4 @@
 use mathlib.Core.Path.{◌∙◌}
-use borrow.Author.Rules.{rules}
 use Rattle.bits.specs.Lists.{all}
 use Rattle.walk_plans.specs.Operands.{checked_operands}
 use Rattle.walk_plans.proofs.Again.{checked_again}

@@ -6,7 +6,7 @@ use Rattle.walk_operations.specs.declared.position.Position.{Position}
 use Rattle.walk_transfers.specs.Transfer.{started}
 use Rattle.walk_transfers.specs.Moving.{zero_element}
 use Rattle.walk_transfers.proofs.Standing.{started_stands, started_within}
-use Rattle.walk_transfers.proofs.TransferLaws.{Kept, unit_kept, walk_started}
+use Rattle.walk_transfers.proofs.TransferLaws.{unit_kept, walk_started}
 use Rattle.walk_accesses.specs.Loading.{load_element, load_unit}
 use Rattle.walk_accesses.specs.declared.loading.LoadPlan.{LoadPlan}
 use Rattle.walk_accesses.proofs.Elements.{load_anywhere}

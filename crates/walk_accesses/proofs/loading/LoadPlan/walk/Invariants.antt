@@ -1,13 +1,8 @@
-use Rattle.std.proofs.Common.{◌≡◌, sym, refl, ◌∙◌, arith, rules}
-use borrow.Author.Tests.{not-false}
+use Rattle.std.proofs.Common.{◌≡◌}
 use Rattle.walk_pausable.specs.Walk.{walk}
-use Rattle.walk_pausable.proofs.Turn.{walk_more, walk_end, walk_none}
 use Rattle.walk_operations.specs.Context.{context, pausing}
-use Rattle.walk_transfers.specs.Moving.{zero_element}
-use Rattle.walk_transfers.proofs.Standing.{started_stands, started_within}
-use Rattle.walk_transfers.proofs.TransferLaws.{Kept, unit_kept, walk_started}
-use Rattle.walk_accesses.specs.Loading.{load_element, load_unit}
-use Rattle.walk_accesses.proofs.Elements.{load_anywhere}
+use Rattle.walk_transfers.proofs.TransferLaws.{Kept}
+use Rattle.walk_accesses.specs.Loading.{load_unit}
 use Rattle.walk_accesses.proofs.loading.LoadPlan.walk.Given as goal
 
 -- what is left to walk from here is the walk from where both sides start

@@ -5,7 +5,7 @@ use Rattle.walk_operations.specs.Context.{context, pausing}
 use Rattle.walk_operations.specs.declared.position.Position.{Position}
 use Rattle.walk_transfers.specs.Transfer.{started}
 use Rattle.walk_transfers.proofs.Standing.{started_stands, started_within}
-use Rattle.walk_transfers.proofs.TransferLaws.{Kept, unit_kept, walk_started}
+use Rattle.walk_transfers.proofs.TransferLaws.{unit_kept, walk_started}
 use Rattle.walk_accesses.specs.Storing.{store_element, store_zero, store_unit}
 use Rattle.walk_accesses.specs.declared.storing.StorePlan.{StorePlan}
 use Rattle.walk_accesses.proofs.Elements.{store_anywhere}

@@ -1,12 +1,8 @@
-use Rattle.std.proofs.Common.{◌≡◌, length, sym, refl, ◌∙◌, arith, rules}
-use borrow.Author.Tests.{not-false}
+use Rattle.std.proofs.Common.{◌≡◌, length}
 use Rattle.walk_pausable.specs.Walk.{walk}
-use Rattle.walk_pausable.proofs.Turn.{walk_more, walk_end, walk_none}
 use Rattle.walk_operations.specs.Context.{context, pausing}
-use Rattle.walk_transfers.proofs.Standing.{started_stands, started_within}
-use Rattle.walk_transfers.proofs.TransferLaws.{Kept, unit_kept, walk_started}
-use Rattle.walk_accesses.specs.Storing.{store_element, store_zero, store_unit}
-use Rattle.walk_accesses.proofs.Elements.{store_anywhere}
+use Rattle.walk_transfers.proofs.TransferLaws.{Kept}
+use Rattle.walk_accesses.specs.Storing.{store_unit}
 use Rattle.walk_accesses.proofs.storing.StorePlan.walk.Given as goal
 
 -- what is left to walk from here is the walk from where both sides start

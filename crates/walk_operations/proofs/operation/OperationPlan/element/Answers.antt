@@ -1,6 +1,5 @@
 use Rattle.std.proofs.Common.{rules, ◌<◌}
 use Rattle.walk_operands.proofs.Fits.{fits_at}
-use Rattle.walk_operations.specs.Operation.{element_of}
 use Rattle.walk_operations.proofs.operation.OperationPlan.element.Goals as goal
 
 pub at-requires : goal.at-requires

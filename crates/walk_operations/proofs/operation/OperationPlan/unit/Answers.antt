@@ -33,10 +33,10 @@ returns c =
     let registers = c.args.registers.now in
     unit_off _ _ _ _ _ _ c.is_on.ensures c.if-is_on.false
     (elim c.if-self-2.branch [
-      then-self-2 w ↦
+      | then-self-2 w ↦
           rw w.if-self-2.true
           (w.registers-is ∙ w.write_within-then-self-2.ensures
           ∙ ap (λ to. written registers to 0) w.at-to-then-self-2.ensures)
-    | else-self-2 w ↦ rw w.if-self-2.false w.registers-is
+      | else-self-2 w ↦ rw w.if-self-2.false w.registers-is
     ])
     c.go_on-2.ensures

@@ -1,10 +1,7 @@
-use Rattle.std.proofs.Common.{◌≡◌, ℕ, ◌<◌, List, sym, refl, ◌∙◌, rules}
-use borrow.Author.Tests.{not-false}
+use Rattle.std.proofs.Common.{◌≡◌, ℕ, ◌<◌, List}
 use Rattle.walk_pausable.specs.Walk.{walk}
-use Rattle.walk_pausable.proofs.Turn.{walk_more, walk_end, walk_none}
 use Rattle.walk_operations.specs.Context.{context, pausing}
 use Rattle.walk_operations.specs.Operation.{operation_unit}
-use Rattle.walk_operations.proofs.OperationLaws.{paused_below}
 use Rattle.walk_operations.proofs.operation.OperationPlan.walk.Given as goal
 
 abbrev pub invariant-loop-remaining : goal.invariant-loop-remaining

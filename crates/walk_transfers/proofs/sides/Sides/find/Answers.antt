@@ -1,4 +1,3 @@
-use borrow.Author.Rules.{rules}
 use mathlib.Core.Path.{◌∙◌}
 use Rattle.walk_transfers.proofs.Standing.{stands_pair}
 use Rattle.walk_transfers.proofs.sides.Sides.find.Goals as goal

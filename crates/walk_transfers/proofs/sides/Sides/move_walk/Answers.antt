@@ -7,7 +7,7 @@ use Rattle.walk_transfers.specs.Moving.{move_element, zero_element, move_unit}
 use Rattle.walk_transfers.specs.Transfer.{started}
 use Rattle.walk_transfers.specs.declared.sides.Sides.{Sides}
 use Rattle.walk_transfers.proofs.Standing.{started_stands, started_within}
-use Rattle.walk_transfers.proofs.TransferLaws.{Kept, unit_kept, walk_started}
+use Rattle.walk_transfers.proofs.TransferLaws.{unit_kept, walk_started}
 use Rattle.walk_transfers.proofs.sides.Sides.move_walk.Goals.{then-unmasked, else-unmasked}
 use Rattle.walk_transfers.proofs.sides.Sides.move_walk.Goals as goal
 

@@ -1,20 +1,10 @@
-use mathlib.Core.Path.{◌≡◌, refl, sym, ◌∙◌}
-use mathlib.Core.Bool.{true, false, ◌&&◌}
-use mathlib.Core.Logic.{⊎_elim}
-use borrow.Author.Rules.{rules}
-use borrow.Author.Tests.{not-false, eqb-true}
-use native.Mathlib.Omega.{arith}
-use lib.Dec.{eqb}
-use mathlib.Core.List.{List, []}
-use Prim.Native.Nat.{ℕ, ◌-◌, ◌^◌, ◌<◌}
-use Rattle.bits.proofs.Booleans.{and_left, and_right}
+use mathlib.Core.Path.{◌≡◌}
+use mathlib.Core.List.{List}
+use Prim.Native.Nat.{ℕ}
 use Rattle.walk_pausable.specs.Walk.{walk}
-use Rattle.walk_pausable.proofs.Turn.{walk_more, walk_end, walk_none}
-use Rattle.walk_operations.specs.Context.{context, pausing, outcome_of}
-use Rattle.walk_transfers.specs.Moving.{move_element, zero_element, move_unit}
-use Rattle.walk_transfers.specs.SidesReady.{Within, Stands}
-use Rattle.walk_transfers.proofs.Standing.{started_stands, started_within}
-use Rattle.walk_transfers.proofs.TransferLaws.{Kept, unit_kept, walk_started}
+use Rattle.walk_operations.specs.Context.{context, pausing}
+use Rattle.walk_transfers.specs.Moving.{move_unit}
+use Rattle.walk_transfers.proofs.TransferLaws.{Kept}
 use Rattle.walk_transfers.proofs.sides.Sides.move_walk.Given as goal
 
 -- what is left to walk from here is the walk from where both sides start
