@@ -1,4 +1,3 @@
-use borrow.Author.Rules.{rules}
 use Rattle.simplev_arrays.proofs.Arrays.{element_missing, element_there}
 use Rattle.simplev_arrays.proofs.register_at.Goals as goal
 

@@ -1,4 +1,3 @@
-use borrow.Author.Rules.{rules}
 use Rattle.machine.proofs.Shapes.{parts}
 use Rattle.simplev_arrays.proofs.Arrays.{all_bits}
 use Rattle.simplev_arrays.proofs.Leaves.{replies_same}

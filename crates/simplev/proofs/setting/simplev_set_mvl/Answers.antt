@@ -1,4 +1,3 @@
-use borrow.Author.Rules.{rules}
 use Rattle.machine.specs.Setting.{set_mvl}
 use Rattle.machine.proofs.Shapes.{parts}
 use Rattle.simplev_arrays.proofs.Arrays.{all_bits}

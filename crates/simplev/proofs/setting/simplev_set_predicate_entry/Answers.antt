@@ -1,8 +1,7 @@
 use native.Mathlib.Nat.{div-one}
-use borrow.Author.Rules.{rules}
 use borrow.Author.Tests.{ltb-true}
 use Rattle.machine.specs.Setting.{set_predicate_entry}
-use Rattle.simplev_arrays.proofs.Leaves.{set_refused, set_accepted, set_exists}
+use Rattle.simplev_arrays.proofs.Leaves.{set_accepted, set_exists}
 use Rattle.simplev.proofs.setting.simplev_set_predicate_entry.Goals as goal
 
 pub put_entry-requires : goal.put_entry-requires

@@ -1,6 +1,5 @@
-use borrow.Author.Rules.{rules}
 use Rattle.machine.specs.Setting.{set_register}
-use Rattle.simplev_arrays.proofs.Leaves.{set_refused, set_accepted}
+use Rattle.simplev_arrays.proofs.Leaves.{set_accepted}
 use Rattle.simplev.proofs.setting.simplev_set_register.Goals as goal
 
 pub returns : goal.returns

@@ -1,7 +1,6 @@
-use borrow.Author.Rules.{rules}
 use borrow.Author.Tests.{ltb-true}
 use Rattle.machine.specs.Setting.{set_register_entry}
-use Rattle.simplev_arrays.proofs.Leaves.{set_refused, set_accepted, set_exists}
+use Rattle.simplev_arrays.proofs.Leaves.{set_accepted, set_exists}
 use Rattle.simplev.proofs.setting.simplev_set_register_entry.Goals as goal
 
 pub put_entry-requires : goal.put_entry-requires

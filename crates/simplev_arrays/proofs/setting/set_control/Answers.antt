@@ -1,4 +1,3 @@
-use borrow.Author.Rules.{rules}
 use Rattle.simplev_arrays.proofs.Leaves.{set_refused, set_accepted}
 use Rattle.simplev_arrays.proofs.setting.set_control.Goals as goal
 
