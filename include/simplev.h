@@ -4,7 +4,7 @@
  * on them in place. The library keeps nothing and allocates nothing, and needs nothing from outside but `memset`. Built
  * for RV64 with other flags it may need more; tools/rv64 prints what.
  *
- * Link with libsimplev.a: for x86-64 `rt staticlib simplev` writes target/staticlib/libsimplev.a, for RV64 `tools/rv64`
+ * Link with libsimplev.a: for x86-64 `tools/library` writes target/staticlib/libsimplev.a, for RV64 `tools/rv64`
  * writes target/rv64/libsimplev.a, and `tools/install` puts both where pkg-config finds them.
  *
  * What each function of the library guarantees, whatever the machine, the word, the memory and the arguments hold

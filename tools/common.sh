@@ -82,7 +82,20 @@ need_toolchain() {
     command -v rt > /dev/null || fail 'the Rattle toolchain is not installed: there is no rt'
 }
 
-# Proves a crate and builds what it is, in its folder; what the toolchain printed is shown if it fails.
+# Proves a crate and what it is made of, the lowest first, and builds what it is.
+prove() { # lib|run CRATE
+    local below crate number=0
+    need_toolchain
+    lock
+    mapfile -t below < <(crates_of "$2" | grep -vx "$2")
+    for crate in "${below[@]}"; do
+        prove_crate lib "$crate" "$number" $((${#below[@]} + 1))
+        number=$((number + 1))
+    done
+    prove_crate "$1" "$2" "$number" $((number + 1))
+}
+
+# One crate, in its folder; what the toolchain printed is shown if it fails.
 prove_crate() { # COMMAND CRATE NUMBER OF
     local log status=0 watcher
     log=$(mktemp)
@@ -96,19 +109,6 @@ prove_crate() { # COMMAND CRATE NUMBER OF
     rm -f "$log"
     trap - INT
     [ "$status" = 0 ] || fail "rt $1 failed in crates/$2"
-}
-
-# The same with the crates below it, the lowest first.
-prove() { # lib|run CRATE
-    local below crate number=0
-    need_toolchain
-    lock
-    mapfile -t below < <(crates_of "$2" | grep -vx "$2")
-    for crate in "${below[@]}"; do
-        prove_crate lib "$crate" "$number" $((${#below[@]} + 1))
-        number=$((number + 1))
-    done
-    prove_crate "$1" "$2" "$number" $((number + 1))
 }
 
 # A file that is moved into place whole, with the time of now.
