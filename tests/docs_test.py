@@ -23,10 +23,9 @@ WIDTH = 120
 FOREIGN = {
     "rt": "the toolchain",
     "io": "a library of the toolchain", "libc": "the same", "os": "the same",
-    "getD": "a definition of its library",
+    "get_or": "a definition of its library",
     "requires": "a word of the language", "ensures": "the same", "pub": "the same", "const": "the same",
     "self": "the same", "u32": "the same", "u64": "the same",
-    "Of": "the end of a name",
 }
 
 # Words with a slash or a suffix that name no file here, by the whole word.
@@ -64,7 +63,7 @@ def folders_of(files):
 
 FILES = set(files_below(ROOT))
 PLACES = FILES | folders_of(FILES)
-CRATES = [line.split(":")[0] for line in (ROOT / "crates.txt").read_text().splitlines() if re.match(r"[a-z]", line)]
+CRATES = [line.split(":")[0].split()[0] for line in (ROOT / "crates.txt").read_text().splitlines() if re.match(r"[a-z]", line)]
 
 
 def text_of(file):
