@@ -63,7 +63,7 @@ def folders_of(files):
 
 FILES = set(files_below(ROOT))
 PLACES = FILES | folders_of(FILES)
-CRATES = [line.split(":")[0].split()[0] for line in (ROOT / "crates.txt").read_text().splitlines() if re.match(r"[a-z]", line)]
+CRATES = re.findall(r"^(\w+)", (ROOT / "crates.txt").read_text(), re.M)
 
 
 def text_of(file):
