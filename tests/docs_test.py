@@ -460,8 +460,8 @@ OWN_PLACE = re.compile(r"(?<![\w./])/(?:home|root|opt|srv|work)/")
 
 
 def check_width():
-    """No line is longer than WIDTH characters, but for tables, code blocks and links in the documents, and attributes in
-    .rt files, which the toolchain's layout keeps on one line."""
+    """No line is longer than WIDTH characters, but for tables, code blocks and links in the documents, and in .rt files
+    attributes, which the toolchain's layout keeps on one line."""
     for name in PIECES:
         code = {piece.line for piece in PIECES[name] if piece.kind == "code"}
         for number, line in enumerate(text_of(name).splitlines(), 1):
