@@ -35,7 +35,7 @@
  * another machine and another memory. An interrupt that needs the machine waits for the end of the call, which a small
  * allowance brings near.
  *
- * What a call takes, measured on RV64 (rv64imac, -O3), not proved:
+ * What a call takes, measured on RV64 (rv64imac, -O3) with the toolchain before the present one, not proved:
  *
  *  - Stack: at most 176 bytes, without those of memset. tools/rv64 prints it for other flags.
  *  - Time, counted over states chosen to be bad. docs/BENCHMARKS.md says how, and how to choose an allowance for an
