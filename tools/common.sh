@@ -125,6 +125,22 @@ build_library() { # NAME
     keep "crates/$1/out/lib$1.a" "target/staticlib/lib$1.a"
 }
 
+# The same right after `rt ci` in a fresh tree, over the libraries that it has left (they have no stamp), so that these
+# aren't proved once more. It fails, and builds nothing, where they aren't there.
+build_library_over_ci() { # NAME
+    local kit each log libraries=()
+    kit=$(kit_folder)
+    for each in $(crates_of "$1" | grep -vx "$1"); do
+        [ -d "crates/$each/out/rlib/$each.rlib" ] && [ ! -e "crates/$each/out/rlib/stamp" ] || return
+        libraries+=(--extern "$each=$root/crates/$each/out/rlib/$each.rlib")
+    done
+    log=$(cd "crates/$1" && "$kit/bin/rattle" build --crate-name "$1" src/lib.rt --crate-type staticlib \
+        --extern "std=$kit/rlibs/std.rlib" -L "dependency=$kit/rlibs" "${libraries[@]}" \
+        --antt-project "$kit/rattle/logic/antt-project.json" --logic-built "$kit/logic_built" \
+        --toolchain "$kit/toolchain" -o "out/lib$1.a" 2>&1 < /dev/null) || { echo "$log" >&2; return 1; }
+    keep "crates/$1/out/lib$1.a" "target/staticlib/lib$1.a"
+}
+
 # target/bin/NAME, a program that does nothing on an empty input: to build it is to run it.
 build_program() { # NAME
     prove run "$1"
