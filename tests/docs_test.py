@@ -21,8 +21,7 @@ WIDTH = 120
 
 # Words in backticks that nothing here defines. Each has to be used in some document.
 FOREIGN = {
-    "rt": "the toolchain",
-    "io": "a library of the toolchain", "libc": "the same", "os": "the same",
+    "std": "a library of the toolchain",
     "get_or": "a definition of its library",
     "requires": "a word of the language", "ensures": "the same", "pub": "the same", "const": "the same",
     "self": "the same", "u32": "the same", "u64": "the same",
