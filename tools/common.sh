@@ -71,11 +71,16 @@ crates_of() { # NAME..
         END { n = split(wanted, names, " "); for (k = 1; k <= n; k++) visit(names[k]) }' crates.txt
 }
 
-# Says which crate is at hand, if it takes more than a second or two.
-show_progress() { # CRATE NUMBER OF
+# Says which crate is at hand, if it takes more than two seconds: as long as there is its log. (Nothing kills it: bash
+# could take the signal for its own, right after the fork, and clean up.)
+show_progress() { # LOG CRATE NUMBER OF
+    local tenths
     [ -z "${held:-}" ] || exec {held}<&- # the lock is not the watcher's
-    sleep 2 > /dev/null 2>&1
-    tell "proving $1 ($2 of $3 are proved)"
+    for ((tenths = 0; tenths < 20; tenths++)); do
+        sleep 0.1 > /dev/null 2>&1
+        [ -e "$1" ] || return 0
+    done
+    tell "proving $2 ($3 of $4 are proved)"
 }
 
 need_toolchain() {
@@ -97,14 +102,11 @@ prove() { # lib|run CRATE
 
 # One crate, in its folder; what the toolchain printed is shown if it fails.
 prove_crate() { # COMMAND CRATE NUMBER OF
-    local log status=0 watcher
+    local log status=0
     log=$(mktemp)
     trap 'rm -f "$log"; exit 130' INT
-    show_progress "${@:2}" &
-    watcher=$!
+    show_progress "$log" "${@:2}" &
     (cd "crates/$2" && rt "$1") < /dev/null > "$log" 2>&1 || status=$?
-    kill "$watcher" 2> /dev/null || true
-    wait "$watcher" 2> /dev/null || true
     [ "$status" = 0 ] || cat "$log" >&2
     rm -f "$log"
     trap - INT
