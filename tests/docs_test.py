@@ -40,7 +40,7 @@ NO_PATHS = [
 ANY = {"NAME", "CRATE"}
 
 SUFFIXES = (".md", ".rt", ".rs", ".antt", ".py", ".c", ".h", ".txt", ".sh", ".edit")
-NOT_LOOKED_INTO = {".git", "target", "__pycache__"}
+NOT_LOOKED_INTO = {".git", "target", "out", "__pycache__"}
 
 # --- the tree -------------------------------------------------------------------------------------
 
