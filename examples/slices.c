@@ -4,7 +4,7 @@
  *
  * Prints what happens, checks it, and ends with status 1 where something is not as it should be. Build it with
  *
- *     rt staticlib simplev
+ *     tools/library
  *     gcc -Iinclude examples/slices.c target/staticlib/libsimplev.a -o slices
  */
 #include "simplev.h"

@@ -4,7 +4,7 @@
  * on them in place. The library keeps nothing and allocates nothing, and needs nothing from outside but `memset`. Built
  * for RV64 with other flags it may need more; tools/rv64 prints what.
  *
- * Link with libsimplev.a: for x86-64 `rt staticlib simplev` writes target/staticlib/libsimplev.a, for RV64 `tools/rv64`
+ * Link with libsimplev.a: for x86-64 `tools/library` writes target/staticlib/libsimplev.a, for RV64 `tools/rv64`
  * writes target/rv64/libsimplev.a, and `tools/install` puts both where pkg-config finds them.
  *
  * What each function of the library guarantees, whatever the machine, the word, the memory and the arguments hold
@@ -35,7 +35,7 @@
  * another machine and another memory. An interrupt that needs the machine waits for the end of the call, which a small
  * allowance brings near.
  *
- * What a call takes, measured on RV64 (rv64imac, -O3), not proved:
+ * What a call takes, measured on RV64 (rv64imac, -O3) with the toolchain before the present one, not proved:
  *
  *  - Stack: at most 176 bytes, without those of memset. tools/rv64 prints it for other flags.
  *  - Time, counted over states chosen to be bad. docs/BENCHMARKS.md says how, and how to choose an allowance for an

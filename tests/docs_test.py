@@ -21,12 +21,10 @@ WIDTH = 120
 
 # Words in backticks that nothing here defines. Each has to be used in some document.
 FOREIGN = {
-    "rt": "the toolchain",
-    "io": "a library of the toolchain", "libc": "the same", "os": "the same",
-    "getD": "a definition of its library",
+    "std": "a library of the toolchain",
+    "get_or": "a definition of its library",
     "requires": "a word of the language", "ensures": "the same", "pub": "the same", "const": "the same",
     "self": "the same", "u32": "the same", "u64": "the same",
-    "Of": "the end of a name",
 }
 
 # Words with a slash or a suffix that name no file here, by the whole word.
@@ -42,7 +40,7 @@ NO_PATHS = [
 ANY = {"NAME", "CRATE"}
 
 SUFFIXES = (".md", ".rt", ".rs", ".antt", ".py", ".c", ".h", ".txt", ".sh", ".edit")
-NOT_LOOKED_INTO = {".git", "target", "__pycache__"}
+NOT_LOOKED_INTO = {".git", "target", "out", "__pycache__"}
 
 # --- the tree -------------------------------------------------------------------------------------
 
@@ -64,7 +62,7 @@ def folders_of(files):
 
 FILES = set(files_below(ROOT))
 PLACES = FILES | folders_of(FILES)
-CRATES = [line.split(":")[0] for line in (ROOT / "crates.txt").read_text().splitlines() if re.match(r"[a-z]", line)]
+CRATES = re.findall(r"^(\w+)", (ROOT / "crates.txt").read_text(), re.M)
 
 
 def text_of(file):
@@ -461,7 +459,8 @@ OWN_PLACE = re.compile(r"(?<![\w./])/(?:home|root|opt|srv|work)/")
 
 
 def check_width():
-    """No line is longer than WIDTH characters, but for tables, code blocks and links in the documents."""
+    """No line is longer than WIDTH characters, but for tables, code blocks and links in the documents, and in .rt files
+    attributes, which the toolchain's layout keeps on one line."""
     for name in PIECES:
         code = {piece.line for piece in PIECES[name] if piece.kind == "code"}
         for number, line in enumerate(text_of(name).splitlines(), 1):
@@ -472,7 +471,8 @@ def check_width():
         if any(fnmatch.fnmatchcase(file, pattern) for pattern in NARROW):
             for number, line in enumerate(text_of(file).splitlines(), 1):
                 counts["lines"] += 1
-                expect(len(line) <= WIDTH, f"{file}:{number}", f"{len(line)} characters")
+                apart = file.endswith(".rt") and line.lstrip().startswith("#[")
+                expect(apart or len(line) <= WIDTH, f"{file}:{number}", f"{len(line)} characters")
 
 
 def check_words():

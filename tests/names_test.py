@@ -15,36 +15,34 @@ VERBS = {
     "compute": "computed",
     "decode": "decoded",
     "divide": "divided",
-    "divide_words": "wordsDivided",
+    "divide_words": "words_divided",
     "load": "loaded",
     "locate": "located",
-    "sign_extend": "signExtended",
+    "sign_extend": "sign_extended",
 }
 
 # Contracts that are an expression, by the name with which it begins.
 EXPRESSIONS = {
-    "a", "byte", "funct3", "getD", "lookUp", "lowBits", "min", "n", "ofZ", "self", "set", "signBit", "sourcesUnmasked",
-    "toZ", "withRegisters", "words",
+    "a", "byte", "funct3", "get_or", "look_up", "low_bits", "min", "n", "of_z", "self", "set", "sign_bit",
+    "sources_unmasked", "to_z", "with_registers", "words",
 }
 
 # One of several functions with one contract, and contracts of several clauses.
 OTHERS = {
-    ("load_value_as", "loadValue"),
-    ("arithmetic_shift_word", "signExtended"),
+    ("load_value_as", "load_value"),
+    ("arithmetic_shift_word", "sign_extended"),
     ("immediate", "Operation"),
-    ("store", "storeAnswer"),
-    ("put", "storeAnswer"),
+    ("store", "store_answer"),
+    ("put", "store_answer"),
     ("new", "tally"),
 }
 
 FUNCTION = re.compile(
-    r"^impl (?P<type>\w+)|\bfn (?P<name>\w+)[^{]*?\n\s+ensures(?: \w+)? \{ λ (?P<result>\w+)\. ⌜(?P<clause>.*?)⌝",
-    re.S | re.M,
-)
+    r"^impl (?P<type>\w+)|\bfn (?P<name>\w+)[^{]*?\n\s+ensures(?: \w+)? \{ (?P<clause>.*?) \}$", re.S | re.M)
 
 
 def words(name):
-    """The words of a name in either writing."""
+    """The words of a name, of a type or a case too."""
     return re.sub(r"([A-Z])", r"_\1", name).lower().strip("_").split("_")
 
 
@@ -66,7 +64,7 @@ def pairs(path):
             of_type = found["type"]
             continue
         clause = re.sub(r"^\(?(let .*? in )*", "", " ".join(found["clause"].split()))
-        equation = re.match(re.escape(found["result"]) + r" ≡ (?:\w+\.)?(\w+)", clause)
+        equation = re.match(r"result ≡ (?:\w+\.)?(\w+)", clause)
         exported = re.match(r"(?:Replies|Leaves) \((\w+)", clause)
         name = found["name"].removeprefix("simplev_")
         if equation:

@@ -18,7 +18,7 @@ sys.dont_write_bytecode = True
 from support import ROOT, ended, examples
 
 SECTION = "Link it into a C program"
-COMMANDS = ("rt ", "apt-get ", "tools/", "riscv64-linux-gnu-gcc ")  # with which a block of commands begins
+COMMANDS = ("apt-get ", "tools/", "riscv64-linux-gnu-gcc ")  # with which a block of commands begins
 PRINTED = (ROOT / "examples" / "slices.out").read_text()
 
 

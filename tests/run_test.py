@@ -26,23 +26,22 @@ PRINTED = (ROOT / "crates" / "runner" / "stdout").read_bytes()
 TEXT = b"reg x7 10\nrun addi x7,x7,1\n"
 TEXT_PRINTED = b"0 4 0 0\nx7 11\n"
 
-# Writes a line when it begins and one when it ends, and says that it has a crate at hand.
+# Writes a line when it begins and one when it ends, and builds the runner. It takes its time with one crate.
 STAND_IN = """#!/bin/sh
-echo "begin $*" >> "$STAND_IN/calls"
+crate=${PWD##*/}
+echo "begin $* in $crate" >> "$STAND_IN/calls"
 mkdir "$STAND_IN/busy" 2> /dev/null || echo overlap >> "$STAND_IN/calls"
 cat > /dev/null # it may read what it is given
-mkdir -p target/log target/bin
-echo failed > target/log/answers.res
-sleep "${STAND_IN_SECONDS:-0}"
-echo proved > target/log/answers.res
-cp "$STAND_IN/runner" target/bin/runner
+[ "$crate" != answers ] || sleep "${STAND_IN_SECONDS:-0}"
+mkdir -p out
+[ "$1" != run ] || cp "$STAND_IN/runner" out/runner
 rmdir "$STAND_IN/busy"
-echo "end $*" >> "$STAND_IN/calls"
-[ -z "$STAND_IN_FAILS" ] || { echo "answers NOT PROVED"; exit 1; }
+echo "end $* in $crate" >> "$STAND_IN/calls"
+[ -z "$STAND_IN_FAILS" ] || [ "$crate" != answers ] || { echo "answers NOT PROVED"; exit 1; }
 """
 
 # A line that calls the toolchain, and is no comment.
-TOOLCHAIN = re.compile(r"^(?!.*#.*\brt\b).*(?:^|[ ;|&])rt (?:\"|check|ci|must-fail|staticlib|prove|dev)", re.M)
+TOOLCHAIN = re.compile(r"^(?!.*#.*\brt\b).*(?:^|[ ;|&])rt (?:\"|check|ci|must-fail|lib|run|test|all)", re.M)
 
 checks = 0
 
@@ -70,7 +69,9 @@ class Tree:
         self.folder = pathlib.Path(folder)
         self.root = self.folder / "tree"
         self.aside = self.folder / "aside"
-        (self.root / "crates" / "runner").mkdir(parents=True)
+        self.crates = re.findall(r"^(\w+)", (ROOT / "crates.txt").read_text(), re.M)
+        for crate in self.crates:
+            (self.root / "crates" / crate).mkdir(parents=True)
         self.aside.mkdir()
         shutil.copytree(ROOT / "tools", self.root / "tools")
         for name in ("run", "crates.txt", "crates/runner/stdin"):
@@ -80,6 +81,10 @@ class Tree:
         (self.aside / "rt").chmod(0o755)
         self.environment = {**os.environ, "STAND_IN": str(self.aside), "PATH": f"{self.aside}:{os.environ['PATH']}"}
         self.environment.pop("WRENCOBBLE_LOCKED", None)
+
+    def forget(self):
+        """Takes the runner away, so that the next ./run proves."""
+        (self.root / "target" / "bin" / "runner").unlink(missing_ok=True)
 
     def start(self, *words, script=None, **options):
         environment = {**self.environment, **options.pop("environment", {})}
@@ -157,6 +162,7 @@ def stopped_pipe(tree):
 
 def refused(tree):
     """What is wrong with the arguments or the stream is said before anything is proved."""
+    tree.forget()
     (tree.folder / "wrong.txt").write_bytes(b"reg x7 10\nreg x7\n")
     (tree.folder / "bytes.txt").write_bytes(STREAM)
     for words, status, part in (
@@ -172,6 +178,15 @@ def refused(tree):
     for word in ("-h", "--help"):
         seen = tree.run(word)
         check("--help", seen[0] == 0 and seen[1].startswith(b"usage: ./run [FILE]\n") and not seen[3], *seen)
+    seen = tree.run()
+    check("then it is proved", seen[:2] == (0, PRINTED) and seen[3], *seen)
+    seen = tree.run()
+    check("and only once", seen[:2] == (0, PRINTED) and not seen[3], *seen)
+    later = time.time() + 60
+    os.utime(tree.root / "crates.txt", (later, later))
+    seen = tree.run()
+    check("and again for a source that is newer", seen[:2] == (0, PRINTED) and seen[3], *seen)
+    os.utime(tree.root / "crates.txt")
 
 
 def failing_input(data):
@@ -202,21 +217,27 @@ def statuses(tree):
     check("a read error", seen[0] == 1 and "standard input: Input/output error" in seen[2], *seen)
     check("a read error says that the registers are not printed",
           "its registers are not printed" in seen[2] and seen[1] == b"0 4 0 0\n", *seen)
-    (tree.root / "target" / "run.log").write_text("an old log\n")
+    tree.forget()
     seen = tree.run(environment={"STAND_IN_FAILS": "yes"})
-    check("a failed proof", seen[0] == 1 and "answers NOT PROVED" in seen[2] and "old" not in seen[2], *seen)
+    check("a failed proof", seen[0] == 1 and "answers NOT PROVED" in seen[2] and
+          seen[2].endswith("run: rt lib failed in crates/answers\n"), *seen)
     check("after which all is well", tree.run()[0] == 0)
 
 
 def at_once(tree, count):
     (tree.aside / "calls").write_text("")
-    slow = {"STAND_IN_SECONDS": "0.3"}
+    tree.forget()
+    slow = {"STAND_IN_SECONDS": "1"}
     processes = [tree.start(environment=slow) for _ in range(count)]
     seen = [ended(process) for process in processes]
     check(f"{count} at once print the same", all(out == PRINTED for out, _ in seen), *seen)
     check(f"{count} at once end with 0", all(process.returncode == 0 for process in processes))
     calls = tree.calls()
-    check("no two of the toolchain at once", calls == ["begin check runner", "end check runner"] * count, calls)
+    begun = [call.removeprefix("begin ") for call in calls[0::2]]
+    check("no two of the toolchain at once", calls[1::2] == [f"end {call}" for call in begun], calls)
+    proved = {call.removeprefix("lib in ") for call in begun[:-1]}
+    check("each crate below the runner once, and then it", len(proved) == len(begun) - 1 and
+          proved < set(tree.crates) and begun[-1] == "run in runner", calls)
     said = [b"run: waits for another script that proves in this tree" in one for _, one in seen]
     check("all but one say that they wait", said.count(False) == 1, *seen)
 
@@ -224,10 +245,12 @@ def at_once(tree, count):
 def lock(tree):
     at_once(tree, 2)
     at_once(tree, 5)
+    tree.forget()
     with open(tree.root / "crates.txt", "rb") as held:
         subprocess.run(["flock", str(held.fileno())], pass_fds=[held.fileno()], check=True)
         seen = tree.run(environment={"WRENCOBBLE_LOCKED": str(tree.root)})
         check("a script of the one that holds the lock doesn't wait", seen[0] == 0 and not seen[2], *seen)
+        tree.forget()
         other = tree.start(environment={"WRENCOBBLE_LOCKED": "/"})
         time.sleep(0.5)
         check("a lock of another tree is not this one's", other.poll() is None)
@@ -243,6 +266,7 @@ def interrupted(tree):
     """Control-C while it proves: it ends, leaves no file, and the lock is free."""
     kept = tree.folder / "kept"
     kept.mkdir()
+    tree.forget()
     # the signal is ignored where this test was started in the background
     process = tree.start(start_new_session=True, preexec_fn=lambda: signal.signal(signal.SIGINT, signal.SIG_DFL),
                          environment={"STAND_IN_SECONDS": "30", "TMPDIR": str(kept)})
@@ -257,12 +281,10 @@ def interrupted(tree):
 
 
 def progress(tree):
-    crates = set()
-    for line in (ROOT / "crates.txt").read_text().splitlines():
-        crates.update(re.findall(r"^(\w+):", line))
+    tree.forget()
     _, _, said, _ = tree.run(environment={"STAND_IN_SECONDS": "3.5"})
-    found = re.fullmatch(r"run: proving answers \(0 of (\d+) are proved\)\n", said)
-    check("the crate at hand is said", found and 10 < int(found[1]) < len(crates), said)
+    found = re.fullmatch(r"run: proving answers \((\d+) of (\d+) are proved\)\n", said)
+    check("the crate at hand is said", found and 0 < int(found[1]) < int(found[2]) < len(tree.crates), said)
 
 
 def every_script_locks():

@@ -42,8 +42,8 @@ positive() { # WORD WHAT
     [ "$((10#$1))" -gt 0 ] || misuse "a $2 is 1 or more, not $1"
 }
 
-# The toolchain has no lock, and two at once in one tree leave one of them failed. The lock is on crates.txt, since `rt
-# ci` removes target/; a script that is called by the one that holds it finds it held.
+# Two scripts at once in one tree would build the same files of target/, and each would prove what the other proves. The
+# lock is on crates.txt, which is always there; a script that is called by the one that holds it finds it held.
 lock() {
     [ "${WRENCOBBLE_LOCKED:-}" != "$root" ] || return 0
     exec {held}< crates.txt
@@ -71,61 +71,87 @@ crates_of() { # NAME..
         END { n = split(wanted, names, " "); for (k = 1; k <= n; k++) visit(names[k]) }' crates.txt
 }
 
-# Says which crates are at hand, until it is killed. The toolchain writes target/log/NAME.res when it begins with a
-# crate, and its verdict there when it has one; a crate that is proved already is at hand for less than the time between
-# two looks.
-show_progress() { # SINCE CRATE..
-    local since=$1 crate proved at before=' ' shown said=
-    shift
+# Says which crate is at hand, if it takes more than two seconds: as long as there is its log. (Nothing kills it: bash
+# could take the signal for its own, right after the fork, and clean up.)
+show_progress() { # LOG CRATE NUMBER OF
+    local tenths
     [ -z "${held:-}" ] || exec {held}<&- # the lock is not the watcher's
-    while kill -0 "$$" 2> /dev/null && sleep 1 > /dev/null 2>&1; do
-        proved=0 at=' ' shown=
-        for crate in "$@"; do
-            [ "target/log/$crate.res" -nt "$since" ] || continue
-            case $(cat "target/log/$crate.res" 2> /dev/null) in
-            proved | built) proved=$((proved + 1)) ;;
-            *) at+="$crate " && [[ $before != *" $crate "* ]] || shown+=" $crate" ;;
-            esac
-        done
-        [ -z "$shown" ] || [ "$shown" = "$said" ] || tell "proving$shown ($proved of $# are proved)"
-        before=$at said=$shown
+    for ((tenths = 0; tenths < 20; tenths++)); do
+        sleep 0.1 > /dev/null 2>&1
+        [ -e "$1" ] || return 0
     done
+    tell "proving $2 ($3 of $4 are proved)"
 }
 
 need_toolchain() {
     command -v rt > /dev/null || fail 'the Rattle toolchain is not installed: there is no rt'
 }
 
-# Proves crates and builds what they are; what the toolchain printed is shown if it fails.
-prove() { # check NAME.. | staticlib NAME
-    local folder status=0 watcher
+# Proves a crate and what it is made of, the lowest first, and builds what it is.
+prove() { # lib|run CRATE
+    local below crate number=0
     need_toolchain
     lock
-    folder=$(mktemp -d)
-    trap 'rm -rf "$folder"; exit 130' INT
-    # shellcheck disable=SC2046
-    show_progress "$folder" $(crates_of "${@:2}") &
-    watcher=$!
-    rt "$@" < /dev/null > "$folder/log" 2>&1 || status=$?
-    kill "$watcher" 2> /dev/null || true
-    wait "$watcher" 2> /dev/null || true
-    [ "$status" = 0 ] || cat "$folder/log" >&2
-    rm -rf "$folder"
+    mapfile -t below < <(crates_of "$2" | grep -vx "$2")
+    for crate in "${below[@]}"; do
+        prove_crate lib "$crate" "$number" $((${#below[@]} + 1))
+        number=$((number + 1))
+    done
+    prove_crate "$1" "$2" "$number" $((number + 1))
+}
+
+# One crate, in its folder; what the toolchain printed is shown if it fails.
+prove_crate() { # COMMAND CRATE NUMBER OF
+    local log status=0
+    log=$(mktemp)
+    trap 'rm -f "$log"; exit 130' INT
+    show_progress "$log" "${@:2}" &
+    (cd "crates/$2" && rt "$1") < /dev/null > "$log" 2>&1 || status=$?
+    [ "$status" = 0 ] || cat "$log" >&2
+    rm -f "$log"
     trap - INT
-    [ "$status" = 0 ] || fail "rt $* failed"
+    [ "$status" = 0 ] || fail "rt $1 failed in crates/$2"
 }
 
-# target/staticlib/libNAME.a. The crates below it are proved first, since `rt check` takes several at a time.
+# A file that is moved into place whole, with the time of now.
+keep() { # FILE PLACE
+    mkdir -p "$(dirname "$2")"
+    cp "$1" "$2.$$"
+    touch "$2.$$"
+    mv "$2.$$" "$2"
+}
+
+# target/staticlib/libNAME.a
 build_library() { # NAME
-    # shellcheck disable=SC2046
-    prove check $(crates_of "$1" | grep -vx "$1")
-    tell "proving $1"
-    prove staticlib "$1"
+    prove lib "$1"
+    keep "crates/$1/out/lib$1.a" "target/staticlib/lib$1.a"
 }
 
-is_current() { # ARCHIVE: it is there, and no source is newer
-    [ -f "$1" ] && [ -z "$(find crates.txt crates \( -name '*.rt' -o -name '*.antt' -o -name crates.txt \) -newer "$1" \
-        -print -quit)" ]
+# The same right after `rt ci` in a fresh tree, over the libraries that it has left (they have no stamp), so that these
+# aren't proved once more. It fails, and builds nothing, where they aren't there.
+build_library_over_ci() { # NAME
+    local kit each log libraries=()
+    kit=$(kit_folder)
+    for each in $(crates_of "$1" | grep -vx "$1"); do
+        [ -d "crates/$each/out/rlib/$each.rlib" ] && [ ! -e "crates/$each/out/rlib/stamp" ] || return
+        libraries+=(--extern "$each=$root/crates/$each/out/rlib/$each.rlib")
+    done
+    log=$(cd "crates/$1" && "$kit/bin/rattle" build --crate-name "$1" src/lib.rt --crate-type staticlib \
+        --extern "std=$kit/rlibs/std.rlib" -L "dependency=$kit/rlibs" "${libraries[@]}" \
+        --antt-project "$kit/rattle/logic/antt-project.json" --logic-built "$kit/logic_built" \
+        --toolchain "$kit/toolchain" -o "out/lib$1.a" 2>&1 < /dev/null) || { echo "$log" >&2; return 1; }
+    keep "crates/$1/out/lib$1.a" "target/staticlib/lib$1.a"
+}
+
+# target/bin/NAME, a program that does nothing on an empty input: to build it is to run it.
+build_program() { # NAME
+    prove run "$1"
+    keep "crates/$1/out/$1" "target/bin/$1"
+}
+
+is_current() { # FILE: it is there, and no source is newer
+    [ -f "$1" ] && [ -z "$(find crates.txt crates -name out -prune -o \( -name '*.rt' -o -name '*.antt' \
+        -o -name crates.txt \) -newer "$1" -print -quit)" ]
 }
 
 # The same, if it is not current. A script that waited for the lock may find it built.
@@ -135,11 +161,22 @@ library() { # NAME
     is_current "target/staticlib/lib$1.a" || build_library "$1"
 }
 
-# The toolchain's own clang, which compiles what is proved.
+program() { # NAME
+    is_current "target/bin/$1" && return
+    lock
+    is_current "target/bin/$1" || build_program "$1"
+}
+
+# The folder of the toolchain.
+kit_folder() {
+    need_toolchain
+    dirname "$(dirname "$(readlink -f "$(command -v rt)")")"
+}
+
+# Its own clang, which compiles what is proved.
 kit_clang() {
     need_toolchain
-    local kit=${RATTLE_HOME:-$(dirname "$(dirname "$(readlink -f "$(command -v rt)")")")}
-    echo "$kit/on/$(uname -m)/toolchain/bin/clang"
+    echo "$(kit_folder)/toolchain/bin/clang"
 }
 
 # A page with a table put between its markers, `<!-- NAME: .. -->` and `<!-- end of NAME -->`.

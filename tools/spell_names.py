@@ -1,16 +1,16 @@
 #!/usr/bin/env python3
 """usage: tools/spell_names.py
-Spells the repository's own words of specifications and proofs as today's Rattle does: in snake case. It follows port.py of the
-toolchain, which respells those that its library shares. Run once, at the top of the repository.
+Spells the repository's own words of specifications and proofs as today's Rattle does: in snake case. It follows
+port.py of the toolchain, which respells those that its library shares. Run once, at the top of the repository.
 
 - each word in camel case with a small first letter, in .antt files, in the clauses of .rt files and in edits:
   registerAt becomes register_at;
-- each name that a file of specs/ or a file of lemmas defines with a dash: source-ends becomes source_ends. The names that
-  Rattle makes for the parts of a proof keep theirs;
+- each name that a file of specs/ or a file of lemmas defines with a dash: source-ends becomes source_ends. The names
+  that Rattle makes for the parts of a proof keep theirs;
 - in edits and pages, which port.py leaves alone, the words that port.py respelled.
 
-It changes no path of a file, no function of src/, and no string. It stops, and changes nothing, where two names of a folder
-of definitions would fall together."""
+It changes no path of a file, no function of src/, and no string. It stops, and changes nothing, where two names of a
+folder of definitions would fall together."""
 import collections
 import pathlib
 import re
@@ -19,12 +19,15 @@ import sys
 TOKEN = re.compile(r"(?<![A-Za-z0-9_])[A-Za-z_«»μκ][A-Za-z0-9_'«»μκ₀-₉]*(?:-[A-Za-z0-9_'«»μκ₀-₉]+)*")
 CAMEL = re.compile(r"(?<=[a-z0-9])(?=[A-Z])")
 # what port.py respells beyond its own library's names ('look:' of its script of names)
-PORTED_CAMEL = """atStart bitsOf bodyAt bytesOf callOf codeOf contextOf entryAt fieldsOf firstOf formOf highHalf isVector
-layoutOf lineOf listOf loadPlan lowBits lowHalf lowWord machineOf numberOf outIn pairAt placeIn placeOf positionOf putAt
-putBack readingOf settingOf sideOf signBit stateOf tablesOf topOf unitOf upTo valueOf wholeAt wholeOf widthBy withLengths
-withOutcome wordAt wordOf wordsOf inRange bitOr bitAnd bitXor""".split()
+PORTED_CAMEL = """
+atStart bitsOf bodyAt bytesOf callOf codeOf contextOf entryAt fieldsOf firstOf formOf highHalf isVector layoutOf
+lineOf listOf loadPlan lowBits lowHalf lowWord machineOf numberOf outIn pairAt placeIn placeOf positionOf putAt
+putBack readingOf settingOf sideOf signBit stateOf tablesOf topOf unitOf upTo valueOf wholeAt wholeOf widthBy
+withLengths withOutcome wordAt wordOf wordsOf inRange bitOr bitAnd bitXor
+""".split()
 # lemmas that would have the name of the definition that they speak of
-LEMMAS = {"walk_pairs": {"first_on": "is_on-first_on"}, "division": {"low-word": "low_word-of_z"}, "simplev_arrays": {"low-word": "low_word-number"}}
+LEMMAS = {"walk_pairs": {"first_on": "is_on-first_on"}, "division": {"low-word": "low_word-of_z"},
+          "simplev_arrays": {"low-word": "low_word-number"}}
 DEFINES = re.compile(r"^(?:(?:pub|abbrev|unfoldable) )*(?:record|data|ruleset)? ?([^\s:(){}]+)")
 DEFINED = re.compile(r"^\s*(?:(?:pub|abbrev|unfoldable|ruleset) )*([^\s:(){}]+) (?::(?:\s|$)|=.*ruleset)")
 
