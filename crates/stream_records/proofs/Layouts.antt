@@ -3,9 +3,47 @@ use Prim.Native.Nat.{ℕ, zero, suc, ◌+◌, ◌<◌, ◌≤◌}
 use mathlib.Core.Path.{◌≡◌, refl, ◌∙◌}
 use mathlib.Core.Bool.{Bool, true, false, cond, not, ◌||◌}
 use native.Mathlib.Omega.{arith}
+use borrow.Author.Tests.{ne_eqb, eqb-true, eqb-false}
 use lib.Dec.{eqb}
-use Rattle.stream_records.specs.Record.{fields, layouts, layout_of, served_layout}
+use Rattle.stream_records.specs.Record.{fields, layouts, layout_of, served_layout, record_of}
 use Rattle.stream_records.specs.declared.record.Layout.{Layout}
+use Rattle.stream_records.specs.declared.record.Record.TheVariants.{Memory}
+
+-- a number that is none of 1 to 5
+abbrev pub Other : ℕ → Type 0
+Other kind = ((((Unit {0} × (kind ≡ 1 → ⊥)) × (kind ≡ 2 → ⊥)) × (kind ≡ 3 → ⊥)) × (kind ≡ 4 → ⊥)) × (kind ≡ 5 → ⊥)
+
+-- no kind but 1 to 6
+pub unknown : (kind : ℕ) → Other kind → (kind ≡ 6 → ⊥) → fields 0 0 ≡ layout_of kind
+unfolding layout_of layouts
+unknown zero o n = refl
+unknown (suc zero) o n = absurd (o.0.0.0.0.1 refl)
+unknown (suc (suc zero)) o n = absurd (o.0.0.0.1 refl)
+unknown (suc (suc (suc zero))) o n = absurd (o.0.0.1 refl)
+unknown (suc (suc (suc (suc zero)))) o n = absurd (o.0.1 refl)
+unknown (suc (suc (suc (suc (suc zero))))) o n = absurd (o.1 refl)
+unknown (suc (suc (suc (suc (suc (suc zero)))))) o n = absurd (n refl)
+unknown (suc (suc (suc (suc (suc (suc (suc k))))))) o n = refl
+
+-- of these a known kind is 6
+pub sixth : (kind : ℕ) → Other kind → 0 < (layout_of kind).first → layout_of kind ≡ fields 2 8
+unfolding layout_of layouts
+sixth kind o h = by (eqb kind 6) refl
+  where
+    by : (t : Bool) → eqb kind 6 ≡ t → layout_of kind ≡ fields 2 8
+    by true e = rw (eqb-true kind 6 e)
+    by false e = absurd (omega (arith, rw (← unknown kind o (eqb-false kind 6 e)) at h))
+
+pub other_record : (kind first second : ℕ) → Other kind → Memory first second ≡ record_of kind first second
+unfolding record_of
+other_record kind first second o =
+    rw (
+      ne_eqb kind 1 o.0.0.0.0.1,
+      ne_eqb kind 2 o.0.0.0.1,
+      ne_eqb kind 3 o.0.0.1,
+      ne_eqb kind 4 o.0.1,
+      ne_eqb kind 5 o.1,
+    )
 
 -- no field is longer than 8 bytes, and a body has 3 to 10
 pub record Small (f s : ℕ) : Type 0 where
