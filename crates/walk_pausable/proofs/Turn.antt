@@ -1,7 +1,8 @@
 -- The turns of a loop that walks in place: what is left to walk from here is the walk from the start.
 use Prim.Native.Nat.{ℕ, zero, suc, ◌-◌, ◌<◌, ◌≤◌}
-use mathlib.Core.Bool.{Bool, false}
+use mathlib.Core.Bool.{Bool, true, not}
 use mathlib.Core.Path.{◌≡◌, refl, sym, ◌∙◌}
+use borrow.Author.Tests.{not-true}
 use native.Mathlib.Numerals.{sub-one}
 use native.Mathlib.Omega.{arith}
 use Rattle.walk_pausable.specs.Outcome.{Pausing, Outcome, outcome, Paused, if_paused}
@@ -29,9 +30,9 @@ module _ {A S : Type 0} (answers : Pausing A) (unit : S → Outcome A S) where
   -- a unit that did not, as the flag says that the loop tests
   pub walk_end :
       (n : ℕ) (s : S) (o : Outcome A S) {flag : Bool} → 0 < n → o ≡ unit s →
-      flag ≡ answers.paused o.answer → flag ≡ false → o ≡ walk answers unit n s
+      flag ≡ answers.paused o.answer → not flag ≡ true → o ≡ walk answers unit n s
   walk_end n s o {flag} h e said f =
-      let ended = sym said ∙ f in
+      let ended = sym said ∙ not-true flag f in
       sym (walk_step n s h ∙ rw (← e) (ended_stays answers o (walk answers unit (n - 1)) ended))
 
   -- none left

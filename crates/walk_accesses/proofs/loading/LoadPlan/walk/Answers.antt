@@ -1,4 +1,4 @@
-use Rattle.std.proofs.Common.{◌≡◌, ℕ, List, sym, refl, ◌∙◌, arith}
+use Rattle.std.proofs.Common.{◌≡◌, ℕ, List, sym, refl, ◌∙◌, arith, ap, not}
 use Rattle.walk_pausable.specs.Walk.{walk}
 use Rattle.walk_pausable.proofs.Turn.{walk_more, walk_end, walk_none}
 use Rattle.walk_operations.specs.Context.{context, pausing}
@@ -37,7 +37,7 @@ loop-remaining-init c = (
 
 pub returns-then-not-pauses : goal.returns-then-not-pauses
 returns-then-not-pauses c =
-    walk_end _ _ _ _ _ c.loop-remaining-test.true c.unit-ran.ensures c.pauses.ensures c.if-not-pauses.true
+    walk_end _ _ _ _ _ c.loop-remaining-test.true c.unit-ran.ensures c.pauses.ensures (ap not c.if-not-pauses.true)
     ∙ c.loop-remaining.invariant.1
     ∙ from_start _ _ _ _ _ _ c.started-current.ensures c.if-remaining-eq0.false
 

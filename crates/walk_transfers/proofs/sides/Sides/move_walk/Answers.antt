@@ -1,4 +1,4 @@
-use Rattle.std.proofs.Common.{◌≡◌, ℕ, List, [], refl, sym, ◌∙◌, arith}
+use Rattle.std.proofs.Common.{◌≡◌, ℕ, List, [], refl, sym, ◌∙◌, arith, ap, not}
 use Rattle.walk_pausable.specs.Walk.{walk}
 use Rattle.walk_pausable.proofs.Turn.{walk_more, walk_end, walk_none}
 use Rattle.walk_operations.specs.Context.{context, pausing, outcome_of}
@@ -43,7 +43,7 @@ returns-then-not-pauses c memory =
       | then-unmasked w ↦ rw (w.ran-is, w.registers-is) (w.unmasked_unit-ran.ensures memory)
       | else-unmasked w ↦ rw (w.ran-is, w.registers-is) (w.move_unit-ran.ensures memory)
     ] in
-    walk_end _ _ _ _ _ c.loop-remaining-test.true ran c.pauses.ensures c.if-not-pauses.true
+    walk_end _ _ _ _ _ c.loop-remaining-test.true ran c.pauses.ensures (ap not c.if-not-pauses.true)
     ∙ c.loop-remaining.invariant.1 memory
     ∙ from_start _ _ _ _ memory _ c.started-current.ensures c.if-remaining-eq0.false
 
