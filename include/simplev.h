@@ -35,12 +35,12 @@
  * another machine and another memory. An interrupt that needs the machine waits for the end of the call, which a small
  * allowance brings near.
  *
- * What a call takes, measured on RV64 (rv64imac, -O3) with the toolchain before the present one, not proved:
+ * What a call takes, measured on RV64 (rv64imac, -O3), not proved:
  *
- *  - Stack: at most 176 bytes, without those of memset. tools/rv64 prints it for other flags.
+ *  - Stack: at most 224 bytes, without those of memset. tools/rv64 prints it for other flags.
  *  - Time, counted over states chosen to be bad. docs/BENCHMARKS.md says how, and how to choose an allowance for an
  *    interrupt latency.
- *   allowance 0, 1, 4, 16, VL: at most 672, 1380, 1545, 2207, 4893 instructions
+ *   allowance 0, 1, 4, 16, VL: at most 770, 1490, 1694, 2510, 5948 instructions
  *
  * Memory that begins elsewhere. Addresses begin at 0: an access at address a is to memory[a]. RAM that begins at BASE,
  * 0x80000000, say, or a part of it, is lent by a pointer to its first byte and its length, and during a call the
