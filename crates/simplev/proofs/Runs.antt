@@ -6,11 +6,11 @@ use Rattle.answers.specs.declared.Answer.{Answer}
 use Rattle.answers.specs.declared.Answer.TheVariants.{OutOfShape}
 use Rattle.walk_pausable.specs.Outcome.{Outcome}
 use Rattle.decode.specs.declared.decoded.Decoded.{Decoded}
-use Rattle.decode.specs.Decoding.{decoded, sources_unmasked}
+use Rattle.decode.specs.Decoding.{decoded, sources_unmasked as without_source_masks}
 use Rattle.state_word.specs.declared.State.{State}
 use Rattle.walk_operations.specs.Context.{Context, context}
 use Rattle.walk_handler.specs.Unit.{handled}
-use Rattle.walk_handler.proofs.Sources.{handled-sources_unmasked}
+use Rattle.walk_handler.proofs.Sources.{sources_unmasked}
 use Rattle.machine.specs.Shape.{in_shape}
 use Rattle.machine.specs.Run.{System, with_context, run}
 use Rattle.machine.proofs.Handled.{put_back, run_handled, run_refused}
@@ -25,10 +25,10 @@ module _ (word n : ℕ) (s : System) {a v : ℕ} where
   pub leaves_run :
       (read : State) (d : Decoded) (o : Outcome Answer Context) → in_shape s.machine ≡ true →
       read ≡ s.machine.state →
-      d ≡ sources_unmasked (decoded word read.cfg s.machine.register_table s.machine.predicate_table) →
+      d ≡ without_source_masks (decoded word read.cfg s.machine.register_table s.machine.predicate_table) →
       o ≡ handled read.vl d n
       (context s.machine.registers s.memory
       (record { pc = s.machine.pc; source = read.source; destination = read.destination })) →
       Says o.answer a v → Leaves (run word n s) a v (with_context s o.state)
   leaves_run read d o h same e ran said =
-      leaves (ap (put_back s) (ran ∙ rw (e, handled-sources_unmasked, same)) ∙ sym (run_handled word n s h)) said
+      leaves (ap (put_back s) (ran ∙ rw (e, sources_unmasked, same)) ∙ sym (run_handled word n s h)) said

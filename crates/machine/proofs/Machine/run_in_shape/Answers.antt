@@ -1,6 +1,6 @@
 use Rattle.std.proofs.Common.{◌<◌, sym, ◌∙◌, ap, arith, rules}
 use Rattle.walk_handler.proofs.Offsets.{ran_within}
-use Rattle.walk_handler.proofs.Sources.{handled-sources_unmasked}
+use Rattle.walk_handler.proofs.Sources.{sources_unmasked}
 use Rattle.machine.specs.Run.{system}
 use Rattle.machine.proofs.Handled.{position_within, vl_most, put_back, run_handled}
 use Rattle.machine.proofs.Machine.run_in_shape.Goals as goal
@@ -26,5 +26,5 @@ overflow_cast-self-2 c =
 pub returns : goal.returns
 returns c =
     let s = system c.args.self c.args.memory.now in
-    ap (put_back s) (rw (c.decode-decoded.ensures, handled-sources_unmasked) at c.run-ran.ensures)
+    ap (put_back s) (rw (c.decode-decoded.ensures, sources_unmasked) at c.run-ran.ensures)
     ∙ sym (run_handled _ _ _ c.requires)
