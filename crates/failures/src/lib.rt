@@ -1,10 +1,11 @@
 #![tactic(auto)]
 
-// What is said where the system fails.
+// Errors of input and output, as the programs say them.
 ghost use Rattle.std.specs.Prelude.{◌≤◌, length};
 
+use std::fmt::{Display, Formatter};
 use std::io::{Cursor, Write};
-use std::{io, str};
+use std::{fmt, io, str};
 
 // Where the words of an error end. What follows them is its number.
 fn words_end(text: &[u8]) -> usize
@@ -18,18 +19,19 @@ fn words_end(text: &[u8]) -> usize
     text.len()
 }
 
-fn say_words(rt: &impl Eprint, what: &str, text: &[u8]) {
-    let words = str::from_utf8(&text[..words_end(text)]).unwrap_or("");
-    let _ = eprintln!(rt; "{what}: {words}");
-}
+// An error of input or output, displayed by its words alone.
+#[derive(Drop)]
+pub struct Failure(pub io::Error);
 
-// Writes a line to standard error: what failed, as the caller names it, and the words of the error.
-pub fn say_failure(rt: &impl Eprint, what: &str, error: io::Error) {
-    let mut text = Cursor::new([0u8; 256]);
-    let _ = write!(text, "{error}");
-    let length = (text.position() as usize).min(256);
-    let text = text.into_inner();
-    say_words(rt, what, &text[..length]);
+impl Display for Failure {
+    fn fmt<W: fmt::Write>(&self, f: &mut Formatter<W>) -> fmt::Result {
+        let mut text = Cursor::new([0u8; 256]);
+        let _ = write!(text, "{}", self.0);
+        let length = (text.position() as usize).min(256);
+        let text = text.into_inner();
+        let words = str::from_utf8(&text[..words_end(&text[..length])]).unwrap_or("");
+        f.write_str(words)
+    }
 }
 
 #[test]

@@ -9,7 +9,7 @@ ghost use Rattle.stream_feed.specs.Stream.{last_text};
 ghost use Rattle.stream_feed.specs.declared.feed.Text.TheVariants.{Written};
 ghost use Rattle.stream_io.specs.Output.{Next, Holds, Sends, Whole, Reached, Turned};
 
-use failures::say_failure;
+use failures::Failure;
 use machine::Machine;
 use std::io;
 use std::io::Read;
@@ -45,7 +45,7 @@ fn write_next(rt: &(impl Print + Eprint), written: u64, text: &[u8]) -> Sent
         return Sent::Stopped;
     }
     if let Err(error) = rt.write_all(text) {
-        say_failure(rt, "standard output", error);
+        let _ = eprintln!(rt; "standard output: {}", Failure(error));
         return Sent::Stopped;
     }
     Sent::Upto(written + text.len() as u64)
@@ -115,7 +115,7 @@ fn read_piece(input: &mut impl Read, stopped: bool, piece: &mut [u8]) -> io::Res
 
 // After a read that failed nobody knows what the rest of the stream would have left in the registers.
 fn say_unread(rt: &impl Eprint, name: &str, error: io::Error) {
-    say_failure(rt, name, error);
+    let _ = eprintln!(rt; "{name}: {}", Failure(error));
     let _ = eprintln!(rt; "the stream was not read to its end: its registers are not printed");
 }
 

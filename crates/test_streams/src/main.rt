@@ -1,7 +1,7 @@
 #![tactic(auto)]
 
 // Runs each record stream that its arguments name, in turn, and writes the name and what the stream prints.
-use failures::say_failure;
+use failures::Failure;
 use std::env::FillError;
 use std::fs::File;
 use std::rt::{Env, Files};
@@ -13,7 +13,9 @@ fn run_file(rt: &(impl Files + Print + Eprint), path: &str) {
             let _ = println!(rt; "{path}");
             stream_io::run_descriptor(rt, &mut file, "stream");
         }
-        Err(error) => say_failure(rt, path, error),
+        Err(error) => {
+            let _ = eprintln!(rt; "{path}: {}", Failure(error));
+        }
     }
 }
 

@@ -1,7 +1,7 @@
 ghost use Rattle.std.specs.Prelude.{◌≤◌, length};
 
 use crate::tally::Tally;
-use failures::say_failure;
+use failures::Failure;
 use std::io::Read;
 
 // How many bytes of the line that has not ended are kept, and the lines before it.
@@ -79,7 +79,7 @@ pub(crate) fn check_file(
         let n = match file.read(&mut buffer) {
             Ok(n) => n,
             Err(error) => {
-                say_failure(rt, path, error);
+                let _ = eprintln!(rt; "{path}: {}", Failure(error));
                 return pending.tally.with_damage();
             }
         };

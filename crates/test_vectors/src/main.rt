@@ -2,7 +2,7 @@
 
 // Checks the files of test vectors that its arguments name: each line's word is decoded and computed,
 // and compared with the line's result.
-use failures::say_failure;
+use failures::Failure;
 use std::env::FillError;
 use std::fs::File;
 use std::rt::{Env, Files};
@@ -25,7 +25,7 @@ fn check_path(rt: &(impl Files + Print + Eprint), path: &str, tally: Tally) -> T
     let mut file = match File::open(rt, path) {
         Ok(file) => file,
         Err(error) => {
-            say_failure(rt, path, error);
+            let _ = eprintln!(rt; "{path}: {}", Failure(error));
             return tally.with_damage();
         }
     };

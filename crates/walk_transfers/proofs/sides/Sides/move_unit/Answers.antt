@@ -2,7 +2,7 @@ use Rattle.std.proofs.Common.{◌<◌, inl, inr, refl, sym, ◌∙◌, rules}
 use Rattle.walk_transfers.specs.Moving.{move_element, zero_element, move_unit}
 use Rattle.walk_transfers.proofs.Standing.{Reached, reached, source_register, destination_register}
 use Rattle.walk_transfers.proofs.TransferLaws.{unit_end, unit_found, unit_zeroed, unit_moved}
-use Rattle.walk_transfers.proofs.sides.Sides.move_unit.Goals.{in-Found, in-Zeroed}
+use Rattle.walk_transfers.proofs.sides.Sides.move_unit.Goals.{Joined-find, in-Found, in-Zeroed}
 use Rattle.walk_transfers.proofs.sides.Sides.move_unit.Goals as goal
 
 pub register-requires : goal.register-requires
@@ -30,27 +30,22 @@ unfolding move_unit
 returns-in-End c memory = rw c.ended.ensures (unit_end _ _ _ _ _ _ c.find.ensures c.in-End.is)
 
 -- the pair, whichever it is
+met : (c : Joined-find) → Reached c.args.self c.match-find.i c.match-find.j
+met c =
+    let within = c.requires.sides_ready.1 in
+    let said = sym c.find.ensures in
+    elim c.match-find.branch [
+      | in-Found w ↦ reached _ _ _ _ within (rw (w.i-is, w.j-is) (inl (said ∙ w.in-Found.is)))
+      | in-Zeroed w ↦ reached _ _ _ _ within (rw (w.i-is, w.j-is) (inr (said ∙ w.in-Zeroed.is)))
+    ]
+
 pub put-requires-clause-i_lt_vl : goal.put-requires-clause-i_lt_vl
 put-requires-clause-i_lt_vl c =
-    let ready = c.requires.sides_ready in
-    let said = sym c.find.ensures in
-    let r : Reached c.args.self c.match-find.i c.match-find.j =
-    elim c.match-find.branch [
-      | in-Found w ↦ reached _ _ _ _ ready.1 (rw (w.i-is, w.j-is) (inl (said ∙ w.in-Found.is)))
-      | in-Zeroed w ↦ reached _ _ _ _ ready.1 (rw (w.i-is, w.j-is) (inr (said ∙ w.in-Zeroed.is)))
-    ] in
-    (r.i_below, r.j_below, ready.0.most)
+    let r = met c.before in (r.i_below, r.j_below, c.requires.sides_ready.0.most)
 
 pub put-requires-clause-register : goal.put-requires-clause-register
 put-requires-clause-register c =
-    let ready = c.requires.sides_ready in
-    let said = sym c.find.ensures in
-    let r : Reached c.args.self c.match-find.i c.match-find.j =
-    elim c.match-find.branch [
-      | in-Found w ↦ reached _ _ _ _ ready.1 (rw (w.i-is, w.j-is) (inl (said ∙ w.in-Found.is)))
-      | in-Zeroed w ↦ reached _ _ _ _ ready.1 (rw (w.i-is, w.j-is) (inr (said ∙ w.in-Zeroed.is)))
-    ] in
-    destination_register ready.0 r c.requires.registers.1
+    destination_register c.requires.sides_ready.0 (met c.before) c.requires.registers.1
 
 pub returns : goal.returns
 unfolding move_unit
