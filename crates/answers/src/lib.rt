@@ -43,15 +43,8 @@ impl Answer {
     {
         match self {
             Answer::Done(value) => value,
-            Answer::Paused => 0,
-            Answer::UnknownWord => 0,
-            Answer::PastRegisters => 0,
-            Answer::BadWidth => 0,
-            Answer::Outside(address) => address,
-            Answer::OutOfShape => 0,
-            Answer::BadValue => 0,
-            Answer::NoSuchPlace => 0,
-            Answer::Misaligned(address) => address,
+            Answer::Outside(address) | Answer::Misaligned(address) => address,
+            _ => 0,
         }
     }
 
@@ -59,14 +52,14 @@ impl Answer {
     pub fn accepts(self) -> bool
         ensures { result ≡ accepts self }
     {
-        self.number() == 0
+        matches!(self, Answer::Done(_))
     }
 
     #[tactic(auto, unfolding(crate::specs::Answer::pauses))]
     pub fn pauses(self) -> bool
         ensures { result ≡ pauses self }
     {
-        self.number() == 1
+        matches!(self, Answer::Paused)
     }
 }
 

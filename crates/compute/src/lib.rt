@@ -18,8 +18,8 @@ pub fn compute(operator: Operator, a: u64, b: u64) -> u64
     ensures { result ≡ computed operator a b }
 {
     match operator {
-        Operator::Add => std::num::wrapping_add_u64(a, b),
-        Operator::Sub => std::num::wrapping_sub_u64(a, b),
+        Operator::Add => a.wrapping_add(b),
+        Operator::Sub => a.wrapping_sub(b),
         Operator::Sll => a << b % 64,
         Operator::Slt => signed::signed_less(a, b) as u64,
         Operator::Sltu => (a < b) as u64,

@@ -1,8 +1,6 @@
 -- What a register number of an instruction names.
-use Rattle.std.specs.Prelude.{ℕ, cond, List, get_or}
+use Rattle.std.specs.Prelude.{ℕ, cond, List, get_or, Option, Some, None}
 use Rattle.tables.specs.declared.entry.RegisterEntry.{RegisterEntry}
-use Rattle.search.specs.declared.Held.{Held}
-use Rattle.search.specs.declared.Held.TheVariants.{At, Nothing}
 use Rattle.search.specs.declared.Table.TheVariants as table
 use Rattle.tables.specs.Entry.{register_entry}
 use Rattle.tables.specs.Enabled.{enabled_range}
@@ -15,21 +13,21 @@ abbrev pub redirected : RegisterEntry → Operand
 redirected entry = cond entry.vector (Vector entry.register) (Scalar entry.register)
 
 -- An entry redirects; an untagged operand is scalar and names itself.
-abbrev pub operand_by : Held → List ℕ → ℕ → Operand
-operand_by (At i) entries key = redirected (register_entry (get_or entries i 0))
-operand_by Nothing entries key = Plain key
+abbrev pub operand_by : Option ℕ → List ℕ → ℕ → Operand
+operand_by (Some i) entries key = redirected (register_entry (get_or entries i 0))
+operand_by None entries key = Plain key
 
-abbrev pub width_by : Held → List ℕ → ℕ
-width_by (At i) entries = (register_entry (get_or entries i 0)).width
-width_by Nothing entries = 0
+abbrev pub width_by : Option ℕ → List ℕ → ℕ
+width_by (Some i) entries = (register_entry (get_or entries i 0)).width
+width_by None entries = 0
 
 -- zero is an empty entry
-abbrev pub predicate_by : Held → List ℕ → ℕ
-predicate_by (At i) entries = get_or entries i 0
-predicate_by Nothing entries = 0
+abbrev pub predicate_by : Option ℕ → List ℕ → ℕ
+predicate_by (Some i) entries = get_or entries i 0
+predicate_by None entries = 0
 
 -- an operand by the register entry that holds for its key, and the word of a predicate entry
-abbrev pub resolved_by : Held → List ℕ → ℕ → ℕ → ResolvedOperand
+abbrev pub resolved_by : Option ℕ → List ℕ → ℕ → ℕ → ResolvedOperand
 resolved_by held register_table key predicate = record {
   operand = operand_by held register_table key;
   width = width_by held register_table;

@@ -5,7 +5,7 @@ ghost use Rattle.search.specs.declared.Table.TheVariants.{Register, Predicate};
 ghost use Rattle.decode.specs.Resolving.{resolved_by, predicate_by, redirected};
 
 use crate::decoded::{Operand, ResolvedOperand};
-use search::{Held, Table, held_entry};
+use search::{Table, held_entry};
 use tables::ENTRIES;
 use tables::enabled::Range;
 use tables::entry::RegisterEntry;
@@ -17,8 +17,8 @@ pub(crate) fn predicate_by(entries: &[u16; ENTRIES], range: Range, key: u8) -> u
         result ≡ predicate_by (held_entry Predicate words range key) words }
 {
     match held_entry(Table::Predicate, entries, range, key) {
-        Held::At(i) => entries[i],
-        Held::Nothing => 0,
+        Some(i) => entries[i],
+        None => 0,
     }
 }
 
@@ -45,15 +45,15 @@ pub(crate) fn resolved_by(
         result ≡ resolved_by (held_entry Register words range key) words key predicate }
 {
     match held_entry(Table::Register, entries, range, key) {
-        Held::At(i) => {
-            let entry = RegisterEntry::of(entries[i]);
+        Some(i) => {
+            let entry = RegisterEntry::from(entries[i]);
             ResolvedOperand {
                 operand: redirected(entry),
                 width: entry.width,
                 predicate,
             }
         }
-        Held::Nothing => ResolvedOperand {
+        None => ResolvedOperand {
             operand: Operand::Plain(key),
             width: 0,
             predicate,

@@ -24,16 +24,9 @@ use tables::enabled::Range;
 fn first_key(form: Form, word: u32) -> u8
     ensures { result ≡ first_key form word }
 {
-    let rd = fields::rd(word);
     match form {
-        Form::Register(_) => rd,
-        Form::Immediate(_) => rd,
-        Form::Shift(_) => rd,
-        Form::WordShift(_) => rd,
-        Form::Load(_) => rd,
-        Form::LoadUnsigned(_) => rd,
         Form::Store(_) => fields::rs2(word),
-        Form::Unknown => rd,
+        _ => fields::rd(word),
     }
 }
 
@@ -41,16 +34,10 @@ fn first_key(form: Form, word: u32) -> u8
 fn is_access(form: Form) -> bool
     ensures { result ≡ is_access form }
 {
-    match form {
-        Form::Register(_) => false,
-        Form::Immediate(_) => false,
-        Form::Shift(_) => false,
-        Form::WordShift(_) => false,
-        Form::Load(_) => true,
-        Form::LoadUnsigned(_) => true,
-        Form::Store(_) => true,
-        Form::Unknown => false,
-    }
+    matches!(
+        form,
+        Form::Load(_) | Form::LoadUnsigned(_) | Form::Store(_)
+    )
 }
 
 // The word of the predicate entry of rs1, where its mask counts.

@@ -17,23 +17,17 @@ pub struct Division {
     pub remainder: u64,
 }
 
-// A quotient by -1 may leave the range of i64, so it is had without a division.
+// The one quotient that leaves the range of i64, of the least number by -1, wraps to its dividend.
 fn signed_divide(a: u64, b: u64) -> Division
     requires { 0 < b }
     ensures { (result.quotient ≡ of_z w64 (int_div (to_z w64 a) (to_z w64 b)))
         × (result.remainder ≡ of_z w64 (int_rem (to_z w64 a) (to_z w64 b))) }
 {
-    if b == 0xffff_ffff_ffff_ffff {
-        return Division {
-            quotient: std::num::wrapping_sub_u64(0, a),
-            remainder: 0,
-        };
-    }
-    let dividend = signed::to_i64(a);
-    let divisor = signed::to_i64(b);
+    let dividend = a.cast_signed();
+    let divisor = b.cast_signed();
     Division {
-        quotient: signed::of_i64(dividend / divisor),
-        remainder: signed::of_i64(dividend % divisor),
+        quotient: dividend.wrapping_div(divisor).cast_unsigned(),
+        remainder: dividend.wrapping_rem(divisor).cast_unsigned(),
     }
 }
 

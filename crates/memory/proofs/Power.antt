@@ -7,7 +7,3 @@ use lib.Pow.{pow-add}
 -- one byte more holds 256 times as much
 pub power_suc : (n : ℕ) → 2 ^ (8 * suc n) ≡ 256 * 2 ^ (8 * n)
 power_suc n = let e : 8 * suc n ≡ 8 + 8 * n = omega arith in rw e (pow-add 2 8 (8 * n))
-
--- twice as many bytes hold the square
-pub power_double : (n : ℕ) → 2 ^ (8 * (n + n)) ≡ 2 ^ (8 * n) * 2 ^ (8 * n)
-power_double n = let e : 8 * (n + n) ≡ 8 * n + 8 * n = omega arith in rw e (pow-add 2 (8 * n) (8 * n))

@@ -1,4 +1,4 @@
--- Memory after a write: from two halves, its length, and each byte's content.
+-- Memory after a write: from its bytes, its length, and each byte's content.
 use mathlib.Core.Path.{◌≡◌, refl, sym, ◌∙◌}
 use mathlib.Core.List.{List}
 use Prim.Native.Nat.{ℕ, zero, suc, ◌+◌, ◌*◌, ◌/◌, ◌%◌, ◌^◌, ◌<◌, ◌≤◌}
@@ -10,22 +10,12 @@ use lib.Seq.{get_or-set_same, get_or-set_other}
 use Rattle.memory.specs.LittleEndian.{number, written}
 use Rattle.memory.proofs.Power.{power_suc}
 
--- m bytes, then n bytes above them
-written_join :
-    (memory : List ℕ) (address m n value : ℕ) →
-    written memory address (m + n) value
-    ≡ written (written memory address m value) (address + m) n (value / 2 ^ (8 * m))
+-- a byte, then the bytes above it
+pub write_more :
+    (memory : List ℕ) (at n value : ℕ) →
+    written (set memory at (value % 256)) (at + 1) n (value / 256) ≡ written memory at (n + 1) value
 unfolding written
-written_join memory address zero n value = rw (zero-add, add-zero, div-one)
-written_join memory address (suc m) n value =
-    let step : (address + 1) + m ≡ address + suc m = omega arith in
-    rw (suc-add, power_suc m, ← div-div-eq-div-mul value 256 (2 ^ (8 * m)), ← step)
-    (written_join (set memory address (value % 256)) (address + 1) m n (value / 256))
-
-pub write_join :
-    (memory : List ℕ) (at n value : ℕ) {low high : List ℕ} → low ≡ written memory at n value →
-    high ≡ written low (at + n) n (value / 2 ^ (8 * n)) → high ≡ written memory at (n + n) value
-write_join memory at n value p q = q ∙ rw p (sym (written_join memory at n n value))
+write_more memory at n value = let e : n + 1 ≡ suc n = omega arith in rw e refl
 
 pub written_length : (memory : List ℕ) (address n value : ℕ) → length (written memory address n value) ≡ length memory
 unfolding written

@@ -4,24 +4,22 @@ ghost use Rattle.memory.specs.Access.{located};
 
 use scalar::width::Width;
 
-// Where an access begins, if memory has it.
+// The refusal of an access that doesn't lie wholly in memory.
 #[derive(Clone, Copy)]
-pub enum Access {
-    Inside(usize),
-    Outside,
-}
+pub struct Outside;
 
 // The test of every access: its address lies in memory, and from there on so many bytes do. The
 // sum of address and bytes could overflow.
-pub fn locate(size: usize, address: u64, width: Width) -> Access
+#[tactic(auto, using(crate::proofs::Inside::some_bytes, crate::proofs::Inside::is_inside, crate::proofs::Inside::is_outside))]
+pub fn locate(size: usize, address: u64, width: Width) -> Result<usize, Outside>
     ensures { result ≡ located size address (bytes_of width) }
 {
     let end = size as u64;
     if end <= address {
-        return Access::Outside;
+        return Err(Outside);
     }
     if end - address < width.bytes() {
-        return Access::Outside;
+        return Err(Outside);
     }
-    Access::Inside(address as usize)
+    Ok(address as usize)
 }

@@ -1,50 +1,15 @@
 ghost use Rattle.std.specs.Prelude.{◌+◌, ◌≤◌, length};
-ghost use Rattle.scalar.specs.Width.{bytes_of};
 ghost use Rattle.memory.specs.Read.{Read};
 
-use scalar::width::Width;
-
-// A number is read as its two halves, with no loop, so that it compiles to one
-// load.
-fn byte(memory: &[u8], at: usize) -> u64
-    requires { at + 1 ≤ length memory.now }
-    ensures { Read memory.now at 1 result }
+// The number that some bytes from a place on make, the lowest first. Where their count is known the
+// loop is unrolled, and compiles to one load.
+pub fn read(bytes: &[u8], at: usize, count: usize) -> u64
+    requires { (at + count ≤ length bytes.now) × (count ≤ 8) }
+    ensures { Read bytes.now at count result }
 {
-    memory[at] as u64
-}
-
-fn half(memory: &[u8], at: usize) -> u64
-    requires { at + 2 ≤ length memory.now }
-    ensures { Read memory.now at 2 result }
-{
-    let upper = at + 1;
-    byte(memory, at) + 256 * byte(memory, upper)
-}
-
-fn word(memory: &[u8], at: usize) -> u64
-    requires { at + 4 ≤ length memory.now }
-    ensures { Read memory.now at 4 result }
-{
-    let upper = at + 2;
-    half(memory, at) + 65536 * half(memory, upper)
-}
-
-fn double(memory: &[u8], at: usize) -> u64
-    requires { at + 8 ≤ length memory.now }
-    ensures { Read memory.now at 8 result }
-{
-    let upper = at + 4;
-    word(memory, at) + 4294967296 * word(memory, upper)
-}
-
-pub(crate) fn read(memory: &[u8], at: usize, width: Width) -> u64
-    requires { at + bytes_of width ≤ length memory.now }
-    ensures { Read memory.now at (bytes_of width) result }
-{
-    match width {
-        Width::Byte => byte(memory, at),
-        Width::Half => half(memory, at),
-        Width::Word => word(memory, at),
-        Width::Double => double(memory, at),
+    let mut value = 0;
+    for i in (0..count).rev() {
+        value = 256 * value + u64::from(bytes[at + i]);
     }
+    value
 }

@@ -25,8 +25,8 @@ pub fn low_half(a: u64, b: u64) -> u64
     let high_a = a / 0x1_0000_0000;
     let low_b = b % 0x1_0000_0000;
     let high_b = b / 0x1_0000_0000;
-    let cross = std::num::wrapping_add_u64(partial(high_a, low_b), partial(low_a, high_b));
-    std::num::wrapping_add_u64(partial(low_a, low_b), cross << 32)
+    let cross = partial(high_a, low_b).wrapping_add(partial(low_a, high_b));
+    partial(low_a, low_b).wrapping_add(cross << 32)
 }
 
 // The high half of the product of unsigned factors. Of the product of the low halves only the high word counts; it goes
@@ -64,6 +64,6 @@ pub fn high_half(s: Signedness, t: Signedness, a: u64, b: u64) -> u64
     ensures { result ≡ high_half s t a b }
 {
     let high = unsigned_high_half(a, b);
-    let less = std::num::wrapping_sub_u64(high, correction(s, a, b));
-    std::num::wrapping_sub_u64(less, correction(t, b, a))
+    let less = high.wrapping_sub(correction(s, a, b));
+    less.wrapping_sub(correction(t, b, a))
 }

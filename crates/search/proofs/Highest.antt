@@ -9,12 +9,12 @@ use native.Mathlib.Omega.{arith}
 use borrow.Author.Tests.{lt-ltb, le-ltb, le-leb, lt-leb, ltb-true, ltb-false, eqb-true, eqb-false}
 use Rattle.search.specs.declared.Table.{Table}
 use Rattle.search.specs.declared.Table.TheVariants.{Register, Predicate}
-use Rattle.search.specs.declared.Held.TheVariants.{At, Nothing}
+use Rattle.std.proofs.Common.{Some, None}
 use Rattle.tables.specs.declared.enabled.Range.{Range}
 use Rattle.search.specs.Search.{entry_answers, candidate, highest, held_entry}
 
 module _ (test : ℕ → Bool) where
-  highest_yes : (i : ℕ) → 0 < i → test (i - 1) ≡ true → highest test i ≡ At (i - 1)
+  highest_yes : (i : ℕ) → 0 < i → test (i - 1) ≡ true → highest test i ≡ Some (i - 1)
   unfolding highest
   highest_yes zero h e = absurd (omega arith)
   highest_yes (suc n) h e = let one : suc n - 1 ≡ n = omega arith in rw (rw one at e, one)
@@ -24,7 +24,7 @@ module _ (test : ℕ → Bool) where
   highest_no zero h e = absurd (omega arith)
   highest_no (suc n) h e = let one : suc n - 1 ≡ n = omega arith in rw (rw one at e, one)
 
-  highest_none : (n : ℕ) → ((k : ℕ) → k < n → test k ≡ false) → highest test n ≡ Nothing
+  highest_none : (n : ℕ) → ((k : ℕ) → k < n → test k ≡ false) → highest test n ≡ None
   unfolding highest
   highest_none zero none = refl
   highest_none (suc n) none = rw (none n (omega arith)) (highest_none n (λ k h. none k (omega arith)))
@@ -74,11 +74,11 @@ module _ (table : Table) (entries : List ℕ) (range : Range) (key : ℕ) where
   unfolding held_entry
   held_start low = highest_skip holds range.end 16 low (λ k h b. outside_high k h)
 
-  pub held_none : (i : ℕ) → i ≤ range.first → highest holds i ≡ Nothing
+  pub held_none : (i : ℕ) → i ≤ range.first → highest holds i ≡ None
   held_none i h = highest_none holds i (λ k l. outside_low k (omega arith))
 
   module _ (i : ℕ) (above : range.first < i) (below : i ≤ range.end) where
-    pub held_yes : answers (i - 1) ≡ true → highest holds i ≡ At (i - 1)
+    pub held_yes : answers (i - 1) ≡ true → highest holds i ≡ Some (i - 1)
     held_yes e = highest_yes holds i (omega arith) (inside (i - 1) (omega arith) (omega arith) ∙ e)
 
     pub held_no : answers (i - 1) ≡ false → highest holds i ≡ highest holds (i - 1)

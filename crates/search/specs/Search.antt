@@ -1,9 +1,7 @@
 -- The entry that holds for a key.
-use Rattle.std.specs.Prelude.{ℕ, zero, suc, ◌≤◌, ◌≡◌, Bool, cond, ◌&&◌, List, eqb, get_or}
+use Rattle.std.specs.Prelude.{ℕ, zero, suc, ◌≤◌, ◌≡◌, Bool, cond, ◌&&◌, List, eqb, get_or, Option, Some, None}
 use Rattle.search.specs.declared.Table.{Table}
 use Rattle.search.specs.declared.Table.TheVariants.{Register, Predicate}
-use Rattle.search.specs.declared.Held.{Held}
-use Rattle.search.specs.declared.Held.TheVariants.{At, Nothing}
 use Rattle.tables.specs.declared.enabled.Range.{Range}
 use Rattle.tables.specs.Enabled.{enabled_range, in_range}
 use Rattle.tables.specs.Entry.{register_entry, predicate_entry}
@@ -18,12 +16,12 @@ unfoldable pub candidate : Table → List ℕ → Range → ℕ → ℕ → Bool
 candidate table entries range key i = in_range range i && entry_answers table key (get_or entries i 0)
 
 -- the highest index below n that passes a test
-unfoldable pub highest : (ℕ → Bool) → ℕ → Held
-highest test zero = Nothing
-highest test (suc n) = cond (test n) (At n) (highest test n)
+unfoldable pub highest : (ℕ → Bool) → ℕ → Option ℕ
+highest test zero = None
+highest test (suc n) = cond (test n) (Some n) (highest test n)
 
 -- Of several enabled entries with one key the highest index holds.
-unfoldable pub held_entry : Table → List ℕ → Range → ℕ → Held
+unfoldable pub held_entry : Table → List ℕ → Range → ℕ → Option ℕ
 held_entry table entries range key = highest (candidate table entries range key) 16
 
 -- a range in which the search finds for every key, in both tables, what it finds in the one that a CFG enables

@@ -13,13 +13,6 @@ pub enum Table {
     Predicate,
 }
 
-// The index of the entry that holds, if one does.
-#[derive(Clone, Copy)]
-pub enum Held {
-    At(usize),
-    Nothing,
-}
-
 // Whether an entry is an integer one with this key: one comparison of both fields, without the bits between them.
 #[tactic(auto, unfolding(crate::specs::Search::entry_answers))]
 pub fn entry_answers(table: Table, key: u8, word: u16) -> bool
@@ -38,7 +31,7 @@ pub fn entry_answers(table: Table, key: u8, word: u16) -> bool
 }
 
 // The enabled entries up to the last that isn't empty in both tables. Most tables have few entries, and an empty one
-// answers to no key. Two entries are tested in a turn, since an enabled range has an even number of them.
+// answers to no key.
 pub fn used_range<'a>(
     cfg: u32,
     register_table: &'a [u16; ENTRIES],
@@ -46,35 +39,25 @@ pub fn used_range<'a>(
 ) -> Range
     ensures { FindsEnabled cfg register_table.now predicate_table.now result }
 {
-    let range = enabled_range(cfg);
-    let mut end = range.end;
-    while range.first < end {
-        if (register_table[end - 1] != 0) | (predicate_table[end - 1] != 0) {
+    let mut range = enabled_range(cfg);
+    for i in (range.first..range.end).rev() {
+        if (register_table[i] != 0) | (predicate_table[i] != 0) {
             break;
         }
-        end -= 1;
-        if (register_table[end - 1] != 0) | (predicate_table[end - 1] != 0) {
-            break;
-        }
-        end -= 1;
+        range.end = i;
     }
-    Range {
-        first: range.first,
-        end,
-    }
+    range
 }
 
-// The entry of a range that holds for a key.
-pub fn held_entry(table: Table, entries: &[u16; ENTRIES], range: Range, key: u8) -> Held
+// The index of the entry of a range that holds for a key, if one does.
+pub fn held_entry(table: Table, entries: &[u16; ENTRIES], range: Range, key: u8) -> Option<usize>
     requires { range.end ≤ 16 }
     ensures { result ≡ held_entry table entries.now range key }
 {
-    let mut i = range.end;
-    while range.first < i {
-        i -= 1;
+    for i in (range.first..range.end).rev() {
         if entry_answers(table, key, entries[i]) {
-            return Held::At(i);
+            return Some(i);
         }
     }
-    Held::Nothing
+    None
 }

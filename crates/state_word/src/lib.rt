@@ -15,23 +15,11 @@ pub struct State {
     pub destination: u32,
 }
 
-fn less_one(n: u32) -> u32
-    ensures { result ≡ n - 1 }
-{
-    if n < 1 { 0 } else { n - 1 }
-}
+impl From<u32> for State {
+    ghost from_gives = { λ word state. state ≡ of_word word };
 
-fn least(n: u64, most: u32) -> u32
-    ensures { result ≡ min n most }
-{
-    if n < (most as u64) { n as u32 } else { most }
-}
-
-impl State {
     #[tactic(auto, unfolding(crate::specs::State::of_word))]
-    pub fn of_word(word: u32) -> State
-        ensures { result ≡ of_word word }
-    {
+    fn from(word: u32) -> State {
         State {
             mvl: word % 64 + 1,
             vl: word / 64 % 64 + 1,
@@ -40,30 +28,34 @@ impl State {
             destination: word / 262144 % 64,
         }
     }
+}
+
+impl From<State> for u32 {
+    ghost from_gives = { λ state word. word ≡ word_of state };
 
     #[tactic(auto, unfolding(crate::specs::State::word_of))]
-    pub fn word(self) -> u32
-        ensures { result ≡ word_of self }
-    {
-        less_one(self.mvl) % 64
-            + less_one(self.vl) % 64 * 64
-            + self.source % 64 * 4096
-            + self.destination % 64 * 262144
-            + self.cfg % 32 * 16777216
+    fn from(state: State) -> u32 {
+        state.mvl.saturating_sub(1) % 64
+            + state.vl.saturating_sub(1) % 64 * 64
+            + state.source % 64 * 4096
+            + state.destination % 64 * 262144
+            + state.cfg % 32 * 16777216
     }
+}
 
+impl State {
     // VL no more than MVL.
     pub fn cut(mut self) -> State
         ensures { result ≡ cut self }
     {
-        self.vl = least(self.vl as u64, self.mvl);
+        self.vl = self.vl.min(self.mvl);
         self
     }
 
     pub fn with_vl(mut self, n: u64) -> State
         ensures { result ≡ with_vl self n }
     {
-        self.vl = least(n, self.mvl);
+        self.vl = n.min(u64::from(self.mvl)) as u32;
         self.source = 0;
         self.destination = 0;
         self
@@ -72,7 +64,7 @@ impl State {
     pub fn with_mvl(mut self, n: u32) -> State
         ensures { result ≡ with_mvl self n }
     {
-        self.vl = least(self.vl as u64, n);
+        self.vl = self.vl.min(n);
         self.mvl = n;
         self.source = 0;
         self.destination = 0;
@@ -98,6 +90,6 @@ impl State {
 pub fn good_word(word: u32) -> bool
     ensures { result ≡ good_word word }
 {
-    let state = State::of_word(word).cut();
+    let state = State::from(word).cut();
     (word / 536870912 % 8 == 0) & (state.source < state.vl) & (state.destination < state.vl)
 }

@@ -17,9 +17,8 @@ pub fn enabled_range(cfg: u32) -> Range
         return Range { first, end: first };
     }
     let size = cfg / 8 % 4;
-    let end = first + (2 << size);
-    if end < 16 {
-        return Range { first, end };
+    Range {
+        first,
+        end: (first + (2 << size)).min(16),
     }
-    Range { first, end: 16 }
 }

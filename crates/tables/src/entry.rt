@@ -22,10 +22,10 @@ pub struct PredicateEntry {
     pub mask: u8,
 }
 
-impl RegisterEntry {
-    pub fn of(word: u16) -> RegisterEntry
-        ensures { result ≡ register_entry word }
-    {
+impl From<u16> for RegisterEntry {
+    ghost from_gives = { λ word entry. entry ≡ register_entry word };
+
+    fn from(word: u16) -> RegisterEntry {
         RegisterEntry {
             vector: word / 32768 % 2 == 1,
             register: (word / 256 % 128) as u8,
@@ -36,10 +36,10 @@ impl RegisterEntry {
     }
 }
 
-impl PredicateEntry {
-    pub fn of(word: u16) -> PredicateEntry
-        ensures { result ≡ predicate_entry word }
-    {
+impl From<u16> for PredicateEntry {
+    ghost from_gives = { λ word entry. entry ≡ predicate_entry word };
+
+    fn from(word: u16) -> PredicateEntry {
         PredicateEntry {
             key: (word / 2048 % 32) as u8,
             zeroing: word / 1024 % 2 == 1,
@@ -55,11 +55,10 @@ impl PredicateEntry {
 pub fn all_bit0_clear(entries: &[u16; ENTRIES]) -> bool
     ensures { result ≡ all_bit0_clear entries.now }
 {
+    // With no branch: less is compiled than of a search for the first that isn't.
     let mut clear = true;
-    let mut i: usize = 0;
-    while i < 16 {
-        clear = clear & !(entries[i] % 2 == 1);
-        i += 1;
+    for entry in entries {
+        clear &= !(entry % 2 == 1);
     }
     clear
 }
@@ -68,19 +67,15 @@ pub fn all_bit0_clear(entries: &[u16; ENTRIES]) -> bool
 pub fn entry_at(entries: [u16; ENTRIES], index: u32) -> u16
     ensures { result ≡ get_or entries index 0 }
 {
-    if 16 <= index {
-        return 0;
-    }
-    entries[index as usize]
+    entries.get(index as usize).copied().unwrap_or(0)
 }
 
 // The table with one entry replaced.
 pub fn with_entry(mut entries: [u16; ENTRIES], index: u32, entry: u16) -> [u16; ENTRIES]
     ensures { result ≡ set entries index entry }
 {
-    if 16 <= index {
-        return entries;
+    if index < 16 {
+        entries[index as usize] = entry;
     }
-    entries[index as usize] = entry;
     entries
 }

@@ -37,11 +37,11 @@ pub(crate) fn address_at(
     ensures { result ≡ address_at place offset width registers.now i }
 {
     if place.vector {
-        return std::num::wrapping_add_u64(registers[place.at(i)], offset);
+        return registers[place.at(i)].wrapping_add(offset);
     }
     let register = place.register;
-    let distance = std::num::wrapping_add_u64(offset, i as u64 * width.bytes());
-    std::num::wrapping_add_u64(registers[register], distance)
+    let distance = offset.wrapping_add(i as u64 * width.bytes());
+    registers[register].wrapping_add(distance)
 }
 
 // The number of the bytes at an address, as 64 bits.

@@ -71,7 +71,7 @@ impl Position {
         Ran {
             answer: Answer::Done(0),
             position: Position {
-                pc: std::num::wrapping_add_u64(self.pc, bytes),
+                pc: self.pc.wrapping_add(bytes),
                 source: 0,
                 destination: 0,
             },

@@ -7,7 +7,7 @@ use mathlib.Core.List.{List}
 use mathlib.Core.Bool.{false, not, ◌||◌}
 use borrow.Author.Tests.{eqb-true, not-false}
 use Rattle.bits.proofs.Booleans.{or_false}
-use Rattle.tables.proofs.Ranges.{end_low, end_even}
+use Rattle.tables.proofs.Ranges.{end_low}
 use Rattle.search.specs.Search.{FindsEnabled}
 use Rattle.search.proofs.Highest.{held_shorter}
 use Rattle.search.proofs.used_range.Goals as goal
@@ -30,18 +30,11 @@ shorter cfg register_table predicate_table first end was e =
       predicates = λ key. held_shorter _ _ _ _ (empty _ both.1) key ∙ was.predicates key;
     }
 
-pub loop-end-init : goal.loop-end-init
-loop-end-init c =
-    rw c.enabled_range-range.ensures
-    (record { low = end_low _; registers = λ key. refl; predicates = λ key. refl }, end_even _)
+pub loop-i-init : goal.loop-i-init
+loop-i-init c =
+    (rw c.enabled_range-range.ensures (record { low = end_low _; registers = λ key. refl; predicates = λ key. refl }), refl)
 
-pub loop-end-preserved : goal.loop-end-preserved
-loop-end-preserved c =
-    let was = c.loop-end.invariant in
-    let once = shorter _ _ _ _ _ was.0 c.if-register_table-end.false in
-    (shorter _ _ _ _ _ once c.if-register_table-end-2.false, omega (arith, was.1))
-
-pub returns-then-register_table-end-2 : goal.returns-then-register_table-end-2
-returns-then-register_table-end-2 c =
-    let was = c.loop-end.invariant in
-    shorter _ _ _ _ _ was.0 c.if-register_table-end.false
+pub loop-i-preserved : goal.loop-i-preserved
+loop-i-preserved c =
+    let was = c.loop-i.invariant in
+    (shorter _ _ _ _ _ (rw was.1 at was.0) c.if-register_table-i.false, refl)

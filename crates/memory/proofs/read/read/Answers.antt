@@ -1,25 +1,23 @@
+use Rattle.std.proofs.Common.{◌≡◌, ◌+◌, ◌-◌, ◌*◌, arith}
+use Rattle.memory.proofs.Number.{none_read, read_more, room}
 use Rattle.memory.proofs.read.read.Goals as goal
 
-pub byte-requires : goal.byte-requires
-byte-requires c = rw c.in-Byte.is at c.requires
+pub loop-i-init : goal.loop-i-init
+loop-i-init c = none_read _ _ _
 
-pub half-requires : goal.half-requires
-half-requires c = rw c.in-Half.is at c.requires
+pub overflow_mul-value : goal.overflow_mul-value
+overflow_mul-value c = omega (arith, room (omega arith) c.loop-i.invariant)
 
-pub word-requires : goal.word-requires
-word-requires c = rw c.in-Word.is at c.requires
+pub overflow_add-value : goal.overflow_add-value
+overflow_add-value c =
+    let byte = c.type_inv.bytes (c.args.at + (c.loop-i.i - 1)) in
+    omega (arith, room (omega arith) c.loop-i.invariant)
 
-pub double-requires : goal.double-requires
-double-requires c = rw c.in-Double.is at c.requires
-
-pub returns-in-Byte : goal.returns-in-Byte
-returns-in-Byte c = rw c.in-Byte.is c.byte.ensures
-
-pub returns-in-Half : goal.returns-in-Half
-returns-in-Half c = rw c.in-Half.is c.half.ensures
-
-pub returns-in-Word : goal.returns-in-Word
-returns-in-Word c = rw c.in-Word.is c.word.ensures
-
-pub returns-in-Double : goal.returns-in-Double
-returns-in-Double c = rw c.in-Double.is c.double.ensures
+pub loop-i-preserved : goal.loop-i-preserved
+loop-i-preserved c =
+    let left = c.loop-i.i in
+    let place : c.args.at + left ≡ c.args.at + (left - 1) + 1 = omega arith in
+    let more : c.args.count - (left - 1) ≡ c.args.count - left + 1 = omega arith in
+    let byte = c.type_inv.bytes (c.args.at + (left - 1)) in
+    let e : 256 * c.loop-i.value + c.from.result ≡ c.from.result + 256 * c.loop-i.value = omega arith in
+    rw (more, e, c.from.ensures) (read_more (rw place at c.loop-i.invariant) (omega arith))

@@ -1,25 +1,16 @@
+use Rattle.std.proofs.Common.{◌≡◌, ◌+◌, ◌-◌, ◌∙◌, arith}
+use Rattle.memory.specs.LittleEndian.{written}
+use Rattle.memory.proofs.Written.{write_more}
 use Rattle.memory.proofs.write.write.Goals as goal
 
-pub byte-requires : goal.byte-requires
-byte-requires c = rw c.in-Byte.is at c.requires
+pub loop-i-preserved : goal.loop-i-preserved
+loop-i-preserved c =
+    let place : c.args.at + (c.loop-i.i + 1) ≡ c.args.at + c.loop-i.i + 1 = omega arith in
+    let left : c.args.count - c.loop-i.i ≡ c.args.count - (c.loop-i.i + 1) + 1 = omega arith in
+    rw place (write_more _ _ _ _ ∙ (rw left at c.loop-i.invariant))
 
-pub half-requires : goal.half-requires
-half-requires c = rw c.in-Half.is at c.requires
-
-pub word-requires : goal.word-requires
-word-requires c = rw c.in-Word.is at c.requires
-
-pub double-requires : goal.double-requires
-double-requires c = rw c.in-Double.is at c.requires
-
-pub returns-in-Byte : goal.returns-in-Byte
-returns-in-Byte c = rw c.in-Byte.is c.byte.ensures
-
-pub returns-in-Half : goal.returns-in-Half
-returns-in-Half c = rw c.in-Half.is c.half.ensures
-
-pub returns-in-Word : goal.returns-in-Word
-returns-in-Word c = rw c.in-Word.is c.word.ensures
-
-pub returns-in-Double : goal.returns-in-Double
-returns-in-Double c = rw c.in-Double.is c.double.ensures
+pub returns : goal.returns
+unfolding written
+returns c =
+    let left : c.args.count - c.loop-i.i ≡ 0 = omega arith in
+    rw left at c.loop-i.invariant

@@ -6,11 +6,5 @@ use Rattle.tables.proofs.enabled.enabled_range.Goals as goal
 pub returns-then-cfg-eq31 : goal.returns-then-cfg-eq31
 returns-then-cfg-eq31 c = range_none _ c.if-cfg-eq31.true
 
-pub overflow_add-end : goal.overflow_add-end
-overflow_add-end c = omega (arith, (power (c.args.cfg / 8 % 4) (omega arith)).1)
-
-pub returns-then-end-lt16 : goal.returns-then-end-lt16
-returns-then-end-lt16 c = range_some _ _ c.if-cfg-eq31.false (omega arith)
-
 pub returns : goal.returns
-returns c = range_some _ _ c.if-cfg-eq31.false (omega arith)
+returns c = range_some _ _ c.if-cfg-eq31.false (omega (arith, c.min.ensures))
