@@ -3,8 +3,8 @@ use Rattle.std.proofs.Common.{◌≡◌, ℕ, ◌%◌, ◌^◌, Bool, true, fals
 use mir.Facts.{of_z-to_z}
 use Rattle.scalar.specs.declared.width.Width.TheVariants.{Double}
 use Rattle.scalar.specs.Signed.{sign_extended}
-use Rattle.memory.specs.declared.access.Access.{Access}
-use Rattle.memory.specs.declared.access.Access.TheVariants.{Inside, Outside}
+use Rattle.std.specs.Prelude.{Result, Ok, Err}
+use Rattle.memory.specs.declared.access.Outside.{Outside}
 use Rattle.memory.specs.Access.{located}
 use Rattle.memory.specs.LittleEndian.{Bytes, number}
 use Rattle.memory.specs.Transfer.{loaded, loaded_from}
@@ -26,6 +26,6 @@ pub same_double :
 same_double memory address bytes false = refl
 same_double memory address bytes true = unfold load_value loaded in by (located (length memory) address 8)
   where
-    by : (a : Access) → widened true Double (loaded_from memory 8 a) ≡ widened false Double (loaded_from memory 8 a)
-    by (Inside at) = rw (extended_double memory at bytes)
-    by Outside = refl
+    by : (a : Result ℕ Outside) → widened true Double (loaded_from memory 8 a) ≡ widened false Double (loaded_from memory 8 a)
+    by (Ok at) = rw (extended_double memory at bytes)
+    by (Err outside) = refl

@@ -9,14 +9,15 @@ use Rattle.walk_accesses.specs.declared.storing.StorePlan.{StorePlan}
 use Rattle.walk_operations.specs.declared.position.Fault.TheVariants.{Misaligned}
 use Rattle.walk_operations.specs.declared.position.Position.{Position}
 use Rattle.walk_operations.specs.Context.{Context, context}
-use Rattle.memory.specs.declared.load.Loaded.{Loaded}
-use Rattle.memory.specs.declared.load.Loaded.TheVariants.{Value, Outside}
-use Rattle.memory.specs.declared.store.Stored.{Stored}
-use Rattle.memory.specs.declared.store.Stored.TheVariants as store
+use Rattle.std.specs.Prelude.{⊤, Result, Ok, Err}
+use Rattle.memory.specs.declared.access.Outside.{Outside}
 use Rattle.walk_accesses.specs.Alignment.{aligned, where_aligned}
-use Rattle.walk_accesses.specs.Loading.{address_at, load_value, loaded_to, load_element}
-use Rattle.walk_accesses.specs.Storing.{stored_to, store_value}
-use Rattle.walk_transfers.specs.Transfer.{Transferred, refused}
+use Rattle.walk_accesses.specs.Loading.{address_at, load_value, loaded_to, load_element, load_unit}
+use Rattle.walk_accesses.specs.Storing.{stored_to, store_value, store_element, store_zero, store_unit}
+use Rattle.walk_operations.specs.Plan.{SameWalk}
+use Rattle.walk_transfers.specs.Moving.{zero_element}
+use Rattle.walk_transfers.specs.Transfer.{Transferred, refused, started}
+use Rattle.walk_transfers.proofs.TransferLaws.{walk_started}
 
 -- the stride of an address has 64 bits
 pub stride_fits : (i : ℕ) (width : Width) → i < 64 → i * bytes_of width < 512
@@ -65,10 +66,10 @@ module _ (c : Context) (position : Position) where
       (by address (load_value c.memory address p.width p.signed))
     where
       by :
-          (address : ℕ) (l : Loaded) →
+          (address : ℕ) (l : Result ℕ Outside) →
           loaded_to p (context c.registers c.memory position) address j l ≡ loaded_to p c address j l
-      by address (Value value) = refl
-      by address Outside = refl
+      by address (Ok value) = refl
+      by address (Err outside) = refl
 
   pub store_anywhere :
       (p : StorePlan) (j value : ℕ) →
@@ -80,7 +81,25 @@ module _ (c : Context) (position : Position) where
       (by address (store_answer c.memory address (bytes_of p.width)))
     where
       by :
-          (address : ℕ) (a : Stored) →
+          (address : ℕ) (a : Result ⊤ Outside) →
           stored_to p (context c.registers c.memory position) address value a ≡ stored_to p c address value a
-      by address store.Done = refl
-      by address store.Outside = refl
+      by address (Ok done) = refl
+      by address (Err outside) = refl
+
+-- and so do the walks
+pub load_started :
+    (p : LoadPlan) (position : Position) {start : Position} → start ≡ started p.sides position →
+    SameWalk (load_unit p) position start
+unfolding load_unit
+load_started p position e =
+    walk_started p.sides 4 (load_element p) (zero_element p.sides)
+    (λ c. load_anywhere c _ p) (λ c i j. unfold zero_element in refl) position e
+
+pub store_started :
+    (p : StorePlan) (position : Position) {start : Position} → start ≡ started p.sides position →
+    SameWalk (store_unit p) position start
+unfolding store_unit
+store_started p position e =
+    walk_started p.sides 4 (store_element p) (store_zero p)
+    (λ c i j. unfold store_element in store_anywhere c _ p j _)
+    (λ c i j. unfold store_zero in store_anywhere c _ p j 0) position e

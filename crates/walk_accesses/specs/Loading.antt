@@ -1,12 +1,11 @@
 -- Loads: the address of a position, and the element at a pair.
-use Rattle.std.specs.Prelude.{ℕ, ◌+◌, ◌*◌, ◌%◌, ◌^◌, Bool, true, false, cond, List, slice_index}
+use Rattle.std.specs.Prelude.{ℕ, ◌+◌, ◌*◌, ◌%◌, ◌^◌, Bool, true, false, cond, List, slice_index, Result, Ok, Err}
 use Rattle.answers.specs.declared.Answer.{Answer}
 use Rattle.registers.specs.Written.{written}
 use Rattle.scalar.specs.declared.width.Width.{Width}
 use Rattle.scalar.specs.Width.{bytes_of}
 use Rattle.scalar.specs.Signed.{sign_extended}
-use Rattle.memory.specs.declared.load.Loaded.{Loaded}
-use Rattle.memory.specs.declared.load.Loaded.TheVariants.{Value, Outside}
+use Rattle.memory.specs.declared.access.Outside.{Outside}
 use Rattle.memory.specs.Transfer.{loaded}
 use Rattle.walk_operands.specs.declared.place.Place.{Place}
 use Rattle.walk_operands.specs.Place.{register_at}
@@ -32,18 +31,18 @@ extended true width value = sign_extended width value
 extended false width value = value
 
 -- the same of what a load answers
-abbrev pub widened : Bool → Width → Loaded → Loaded
-widened signed width (Value value) = Value (extended signed width value)
-widened signed width Outside = Outside
+abbrev pub widened : Bool → Width → Result ℕ Outside → Result ℕ Outside
+widened signed width (Ok value) = Ok (extended signed width value)
+widened signed width (Err outside) = Err outside
 
 -- what a load of some width brings from an address
-unfoldable pub load_value : List ℕ → ℕ → Width → Bool → Loaded
+unfoldable pub load_value : List ℕ → ℕ → Width → Bool → Result ℕ Outside
 load_value memory address width signed = widened signed width (loaded memory address (bytes_of width))
 
-abbrev pub loaded_to : LoadPlan → Context → ℕ → ℕ → Loaded → Transferred
-loaded_to p c address j (Value value) =
+abbrev pub loaded_to : LoadPlan → Context → ℕ → ℕ → Result ℕ Outside → Transferred
+loaded_to p c address j (Ok value) =
     moved (written c.registers (register_at p.sides.destination.place j) value) c.memory
-loaded_to p c address j Outside = refused fault.Outside address
+loaded_to p c address j (Err outside) = refused fault.Outside address
 
 -- the source side is the address
 unfoldable pub load_element : LoadPlan → Context → ℕ → ℕ → Transferred

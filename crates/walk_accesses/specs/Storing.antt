@@ -1,9 +1,8 @@
 -- Stores: the element at a pair.
-use Rattle.std.specs.Prelude.{ℕ, slice_index}
+use Rattle.std.specs.Prelude.{ℕ, slice_index, ⊤, Result, Ok, Err}
 use Rattle.answers.specs.declared.Answer.{Answer}
 use Rattle.scalar.specs.Width.{bytes_of}
-use Rattle.memory.specs.declared.store.Stored.{Stored}
-use Rattle.memory.specs.declared.store.Stored.TheVariants.{Done, Outside}
+use Rattle.memory.specs.declared.access.Outside.{Outside}
 use Rattle.memory.specs.Transfer.{store_answer, stored}
 use Rattle.walk_operands.specs.Place.{register_at}
 use Rattle.walk_pausable.specs.Outcome.{Outcome}
@@ -14,9 +13,9 @@ use Rattle.walk_operations.specs.declared.position.Fault.TheVariants as fault
 use Rattle.walk_transfers.specs.Transfer.{Transferred, moved, refused, transfer_unit}
 use Rattle.walk_accesses.specs.Alignment.{where_aligned}
 
-abbrev pub stored_to : StorePlan → Context → ℕ → ℕ → Stored → Transferred
-stored_to p c address value Done = moved c.registers (stored c.memory address (bytes_of p.width) value)
-stored_to p c address value Outside = refused fault.Outside address
+abbrev pub stored_to : StorePlan → Context → ℕ → ℕ → Result ⊤ Outside → Transferred
+stored_to p c address value (Ok done) = moved c.registers (stored c.memory address (bytes_of p.width) value)
+stored_to p c address value (Err outside) = refused fault.Outside address
 
 -- the destination side is the address
 unfoldable pub store_value : StorePlan → Context → ℕ → ℕ → Transferred

@@ -1,19 +1,19 @@
 // A load: its source side is the address.
 ghost use Rattle.std.specs.Prelude.{◌≡◌, ◌<◌};
 ghost use Rattle.walk_operands.specs.Place.{register_at};
-ghost use Rattle.walk_pausable.specs.Walk.{walk};
-ghost use Rattle.walk_operations.specs.Context.{context, outcome_of, pausing};
+ghost use Rattle.walk_operations.specs.Context.{context, outcome_of};
 ghost use Rattle.walk_accesses.specs.Loading.{address_at, load_value, load_unit};
-ghost use Rattle.walk_transfers.specs.SidesReady.{SidesReady, OfRegisters, Stands, Within};
+ghost use Rattle.walk_transfers.specs.SidesReady.{OfRegisters, Begins, Standing};
 
 use crate::alignment::aligned;
-use answers::Answer;
-use memory::load::{Loaded, load};
+use memory::access::Outside;
+use memory::load::load;
 use registers::REGISTERS;
 use scalar::signed::sign_extend;
 use scalar::width::Width;
 use walk_operands::place::Place;
 use walk_operations::position::{Fault, Position, Ran};
+use walk_operations::walk::Plan;
 use walk_pairs::Pair;
 use walk_transfers::sides::Sides;
 
@@ -46,23 +46,20 @@ pub(crate) fn address_at(
 
 // The number of the bytes at an address, as 64 bits.
 #[tactic(auto, unfolding(crate::specs::Loading::load_value))]
-fn load_value_as(memory: &[u8], address: u64, width: Width, signed: bool) -> Loaded
+fn load_value_as(memory: &[u8], address: u64, width: Width, signed: bool) -> Result<u64, Outside>
     ensures { result ≡ load_value memory.now address width signed }
 {
-    match load(memory, address, width) {
-        Loaded::Value(value) => {
-            if signed {
-                return Loaded::Value(sign_extend(width, value));
-            }
-            Loaded::Value(value)
-        }
-        Loaded::Outside => Loaded::Outside,
-    }
+    let value = load(memory, address, width)?;
+    Ok(if signed {
+        sign_extend(width, value)
+    } else {
+        value
+    })
 }
 
 // The same, with the width distinguished once: each case is compiled for its own width. A double has
 // no bits to extend.
-fn load_value(memory: &[u8], address: u64, width: Width, signed: bool) -> Loaded
+fn load_value(memory: &[u8], address: u64, width: Width, signed: bool) -> Result<u64, Outside>
     ensures { result ≡ load_value memory.now address width signed }
 {
     match width {
@@ -77,7 +74,7 @@ impl LoadPlan {
     // One element.
     #[tactic(auto, unfolding(crate::specs::Loading::load_unit))]
     pub fn unit(self, position: Position, registers: &mut [u64; REGISTERS], memory: &[u8]) -> Ran
-        requires sides_ready { SidesReady self.sides × Within self.sides.vl position × Stands self.sides position }
+        requires sides_ready { Standing self.sides position }
         requires registers { OfRegisters self.sides.destination }
         ensures { let start = context registers.old memory.now position in
             outcome_of result registers.new memory.now ≡ load_unit self start }
@@ -95,8 +92,8 @@ impl LoadPlan {
                     return position.faulted(Fault::Misaligned, address, a, b);
                 }
                 match load_value(memory, address, width, self.signed) {
-                    Loaded::Value(loaded) => value = loaded,
-                    Loaded::Outside => return position.faulted(Fault::Outside, address, a, b),
+                    Ok(loaded) => value = loaded,
+                    Err(Outside) => return position.faulted(Fault::Outside, address, a, b),
                 }
                 i = a;
                 j = b;
@@ -108,41 +105,25 @@ impl LoadPlan {
         }
         sides.put(position, 4, registers, i, j, value)
     }
+}
 
-    // At most as many elements as allowed.
-    #[tactic(auto, unfolding(crate::specs::Loading::load_unit))]
-    pub fn walk(
+impl Plan for LoadPlan {
+    ghost begins = { λ plan position. Begins plan.sides position × OfRegisters plan.sides.destination };
+
+    ghost stands = { λ plan position. Standing plan.sides position × OfRegisters plan.sides.destination };
+
+    ghost unit_of = { load_unit };
+
+    fn start(self, position: Position) -> Position {
+        self.sides.started(position)
+    }
+
+    fn walk_unit(
         self,
         position: Position,
-        allowance: u16,
         registers: &mut [u64; REGISTERS],
-        memory: &[u8],
-    ) -> Ran
-        requires sides_ready { SidesReady self.sides × Within self.sides.vl position }
-        requires registers { OfRegisters self.sides.destination }
-        ensures { let start = context registers.old memory.now position in
-            outcome_of result registers.new memory.now ≡ walk pausing (load_unit self) allowance start }
-    {
-        let mut remaining = allowance as usize;
-        if remaining == 0 {
-            return Ran {
-                answer: Answer::Paused,
-                position,
-            };
-        }
-        let mut current = self.sides.started(position);
-        while 0 < remaining {
-            let ran = self.unit(current, registers, memory);
-            let answer = ran.answer;
-            if !answer.pauses() {
-                return ran;
-            }
-            current = ran.position;
-            remaining -= 1;
-        }
-        Ran {
-            answer: Answer::Paused,
-            position: current,
-        }
+        memory: &mut [u8],
+    ) -> Ran {
+        self.unit(position, registers, memory)
     }
 }

@@ -2,18 +2,18 @@
 ghost use Rattle.std.specs.Prelude.{◌≡◌};
 ghost use Rattle.memory.specs.Transfer.{store_answer, stored};
 ghost use Rattle.scalar.specs.Width.{bytes_of};
-ghost use Rattle.walk_pausable.specs.Walk.{walk};
-ghost use Rattle.walk_operations.specs.Context.{context, outcome_of, pausing};
-ghost use Rattle.walk_transfers.specs.SidesReady.{SidesReady, OfRegisters, Stands, Within};
+ghost use Rattle.walk_operations.specs.Context.{context, outcome_of};
+ghost use Rattle.walk_transfers.specs.SidesReady.{OfRegisters, Begins, Standing};
 ghost use Rattle.walk_accesses.specs.Storing.{store_unit};
 
 use crate::alignment::aligned;
 use crate::loading::address_at;
-use answers::Answer;
-use memory::store::{Stored, store};
+use memory::access::Outside;
+use memory::store::store;
 use registers::REGISTERS;
 use scalar::width::Width;
 use walk_operations::position::{Fault, Position, Ran};
+use walk_operations::walk::Plan;
 use walk_pairs::Pair;
 use walk_transfers::sides::Sides;
 
@@ -25,7 +25,7 @@ pub struct StorePlan {
 }
 
 // A store with the width distinguished once: each case is compiled for its own width.
-fn put(memory: &mut [u8], address: u64, width: Width, value: u64) -> Stored
+fn put(memory: &mut [u8], address: u64, width: Width, value: u64) -> Result<(), Outside>
     ensures answer { result ≡ store_answer memory.old address (bytes_of width) }
     ensures bytes { memory.new ≡ stored memory.old address (bytes_of width) value }
 {
@@ -41,7 +41,7 @@ impl StorePlan {
     // One element.
     #[tactic(auto, unfolding(crate::specs::Storing::store_unit))]
     pub fn unit(self, position: Position, registers: &[u64; REGISTERS], memory: &mut [u8]) -> Ran
-        requires sides_ready { SidesReady self.sides × Within self.sides.vl position × Stands self.sides position }
+        requires sides_ready { Standing self.sides position }
         requires registers { OfRegisters self.sides.source }
         ensures { let start = context registers.now memory.old position in
             outcome_of result registers.now memory.new ≡ store_unit self start }
@@ -74,45 +74,29 @@ impl StorePlan {
             return position.faulted(Fault::Misaligned, address, i, j);
         }
         match put(memory, address, width, value) {
-            Stored::Done => sides.after(position, 4, i, j),
-            Stored::Outside => position.faulted(Fault::Outside, address, i, j),
+            Ok(()) => sides.after(position, 4, i, j),
+            Err(Outside) => position.faulted(Fault::Outside, address, i, j),
         }
     }
+}
 
-    // At most as many elements as allowed.
-    #[tactic(auto, unfolding(crate::specs::Storing::store_unit))]
-    pub fn walk(
+impl Plan for StorePlan {
+    ghost begins = { λ plan position. Begins plan.sides position × OfRegisters plan.sides.source };
+
+    ghost stands = { λ plan position. Standing plan.sides position × OfRegisters plan.sides.source };
+
+    ghost unit_of = { store_unit };
+
+    fn start(self, position: Position) -> Position {
+        self.sides.started(position)
+    }
+
+    fn walk_unit(
         self,
         position: Position,
-        allowance: u16,
-        registers: &[u64; REGISTERS],
+        registers: &mut [u64; REGISTERS],
         memory: &mut [u8],
-    ) -> Ran
-        requires sides_ready { SidesReady self.sides × Within self.sides.vl position }
-        requires registers { OfRegisters self.sides.source }
-        ensures { let start = context registers.now memory.old position in
-            outcome_of result registers.now memory.new ≡ walk pausing (store_unit self) allowance start }
-    {
-        let mut remaining = allowance as usize;
-        if remaining == 0 {
-            return Ran {
-                answer: Answer::Paused,
-                position,
-            };
-        }
-        let mut current = self.sides.started(position);
-        while 0 < remaining {
-            let ran = self.unit(current, registers, memory);
-            let answer = ran.answer;
-            if !answer.pauses() {
-                return ran;
-            }
-            current = ran.position;
-            remaining -= 1;
-        }
-        Ran {
-            answer: Answer::Paused,
-            position: current,
-        }
+    ) -> Ran {
+        self.unit(position, registers, memory)
     }
 }

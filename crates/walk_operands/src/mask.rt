@@ -23,7 +23,7 @@ pub fn mask_by(predicate: u16, registers: &[u64; REGISTERS]) -> Mask
             zeroing: false,
         };
     }
-    let entry = PredicateEntry::of(predicate);
+    let entry = PredicateEntry::from(predicate);
     let value = registers[entry.mask as usize];
     Mask {
         on: if entry.invert { !value } else { value },

@@ -1,3 +1,4 @@
 pub mod Context
 pub mod Operation
 pub mod OperationReady
+pub mod Plan

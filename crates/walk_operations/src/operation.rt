@@ -1,12 +1,11 @@
 // An operation: one position after another.
 ghost use Rattle.std.specs.Prelude.{◌≡◌, ◌<◌};
-ghost use Rattle.walk_pausable.specs.Walk.{walk};
-ghost use Rattle.walk_operations.specs.Context.{WithAnyMemory, pausing};
+ghost use Rattle.walk_operations.specs.Context.{WithAnyMemory};
 ghost use Rattle.walk_operations.specs.Operation.{second_at, element_of, go_on, operation_unit};
 ghost use Rattle.walk_operations.specs.OperationReady.{SecondFits, OperationReady};
 
 use crate::position::{Position, Ran};
-use answers::Answer;
+use crate::walk::Plan;
 use compute::compute;
 use registers::{REGISTERS, write_within};
 use scalar::operator::Operator;
@@ -89,27 +88,25 @@ impl OperationPlan {
         }
         go_on(self.vl, position, i)
     }
+}
 
-    // At most as many positions as allowed.
-    pub fn walk(self, position: Position, allowance: u16, registers: &mut [u64; REGISTERS]) -> Ran
-        requires { OperationReady self × (position.destination < self.vl) }
-        ensures { WithAnyMemory (walk pausing (operation_unit self) allowance)
-            registers.old position result registers.new }
-    {
-        let mut current = position;
-        let mut remaining = allowance as usize;
-        while 0 < remaining {
-            let ran = self.unit(current, registers);
-            let answer = ran.answer;
-            if !answer.pauses() {
-                return ran;
-            }
-            current = ran.position;
-            remaining -= 1;
-        }
-        Ran {
-            answer: Answer::Paused,
-            position: current,
-        }
+impl Plan for OperationPlan {
+    ghost begins = { λ plan position. OperationReady plan × (position.destination < plan.vl) };
+
+    ghost stands = { λ plan position. OperationReady plan × (position.destination < plan.vl) };
+
+    ghost unit_of = { operation_unit };
+
+    fn start(self, position: Position) -> Position {
+        position
+    }
+
+    fn walk_unit(
+        self,
+        position: Position,
+        registers: &mut [u64; REGISTERS],
+        memory: &mut [u8],
+    ) -> Ran {
+        self.unit(position, registers)
     }
 }

@@ -1,3 +1,4 @@
 pub mod Standing
 pub mod After
 pub mod TransferLaws
+pub mod Walks

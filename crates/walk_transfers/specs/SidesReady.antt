@@ -24,3 +24,10 @@ OfRegisters s = s.walks ≡ true → s.place.vector ≡ true
 pub record Within (vl : ℕ) (p : Position) : Type 0 where
   pub source : p.source < vl
   pub destination : p.destination < vl
+
+-- where the walk of both sides may begin, and where each of its units does
+abbrev pub Begins : Sides → Position → Type 0
+Begins s p = SidesReady s × Within s.vl p
+
+abbrev pub Standing : Sides → Position → Type 0
+Standing s p = SidesReady s × Within s.vl p × Stands s p

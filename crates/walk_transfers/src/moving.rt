@@ -1,20 +1,20 @@
 // C.MV.
 ghost use Rattle.std.specs.Prelude.{◌&&◌, ◌≡◌, ◌-◌, ◌^◌, eqb};
 ghost use Rattle.walk_pausable.specs.Walk.{walk};
-ghost use Rattle.walk_operations.specs.Context.{WithAnyMemory, pausing};
+ghost use Rattle.walk_operations.specs.Context.{WithAnyMemory, context, outcome_of, pausing};
 ghost use Rattle.walk_transfers.specs.Moving.{move_unit};
-ghost use Rattle.walk_transfers.specs.SidesReady.{SidesReady, OfRegisters, Stands, Within};
+ghost use Rattle.walk_transfers.specs.SidesReady.{OfRegisters, Begins, Standing};
 
 use crate::sides::Sides;
-use answers::Answer;
 use registers::REGISTERS;
 use walk_operations::position::{Position, Ran};
+use walk_operations::walk::{Plan, walk};
 use walk_pairs::Pair;
 
 impl Sides {
     // One element.
     pub fn move_unit(self, position: Position, registers: &mut [u64; REGISTERS]) -> Ran
-        requires sides_ready { SidesReady self × Within self.vl position × Stands self position }
+        requires sides_ready { Standing self position }
         requires registers { OfRegisters self.source × OfRegisters self.destination }
         ensures { WithAnyMemory (move_unit self)
             registers.old position result registers.new }
@@ -47,57 +47,76 @@ impl Sides {
         self.destination.mask.on == 0xffff_ffff_ffff_ffff
     }
 
-    // One element, where every position is on.
-    fn unmasked_unit(self, position: Position, registers: &mut [u64; REGISTERS]) -> Ran
-        requires sides_ready { SidesReady self × Within self.vl position × Stands self position }
-        requires registers { OfRegisters self.source × OfRegisters self.destination }
-        requires mask { (self.source.mask.on ≡ 2 ^ 64 - 1) × (self.destination.mask.on ≡ 2 ^ 64 - 1) }
-        ensures { WithAnyMemory (move_unit self)
-            registers.old position result registers.new }
-    {
-        let i = position.source;
-        let j = position.destination;
-        let value = registers[self.source.register(i)];
-        self.put(position, 2, registers, i, j, value)
-    }
-
     // At most as many elements as allowed. Where every position is on, none is looked for.
     pub fn move_walk(
         self,
         position: Position,
         allowance: u16,
         registers: &mut [u64; REGISTERS],
+        memory: &mut [u8],
     ) -> Ran
-        requires sides_ready { SidesReady self × Within self.vl position }
+        requires sides_ready { Begins self position }
         requires registers { OfRegisters self.source × OfRegisters self.destination }
-        ensures { WithAnyMemory (walk pausing (move_unit self) allowance)
-            registers.old position result registers.new }
+        ensures { let start = context registers.old memory.old position in
+            outcome_of result registers.new memory.new ≡ walk pausing (move_unit self) allowance start }
     {
-        let mut remaining = allowance as usize;
-        if remaining == 0 {
-            return Ran {
-                answer: Answer::Paused,
-                position,
-            };
+        if self.unmasked() {
+            return walk(Unmasked { sides: self }, position, allowance, registers, memory);
         }
-        let mut current = self.started(position);
-        let unmasked = self.unmasked();
-        while 0 < remaining {
-            let ran = if unmasked {
-                self.unmasked_unit(current, registers)
-            } else {
-                self.move_unit(current, registers)
-            };
-            let answer = ran.answer;
-            if !answer.pauses() {
-                return ran;
-            }
-            current = ran.position;
-            remaining -= 1;
-        }
-        Ran {
-            answer: Answer::Paused,
-            position: current,
-        }
+        walk(self, position, allowance, registers, memory)
+    }
+}
+
+impl Plan for Sides {
+    ghost begins = { λ s position. Begins s position × OfRegisters s.source × OfRegisters s.destination };
+
+    ghost stands = { λ s position. Standing s position × OfRegisters s.source × OfRegisters s.destination };
+
+    ghost unit_of = { move_unit };
+
+    fn start(self, position: Position) -> Position {
+        self.started(position)
+    }
+
+    fn walk_unit(
+        self,
+        position: Position,
+        registers: &mut [u64; REGISTERS],
+        memory: &mut [u8],
+    ) -> Ran {
+        self.move_unit(position, registers)
+    }
+}
+
+// A move of which every position is on, on both sides: no pair is looked for.
+#[derive(Clone, Copy)]
+struct Unmasked {
+    sides: Sides,
+    ghost source_on: { sides.source.mask.on ≡ 2 ^ 64 - 1 },
+    ghost destination_on: { sides.destination.mask.on ≡ 2 ^ 64 - 1 },
+}
+
+impl Plan for Unmasked {
+    ghost begins = { λ u position. Begins u.sides position × OfRegisters u.sides.source × OfRegisters u.sides.destination };
+
+    ghost stands = { λ u position. Standing u.sides position × OfRegisters u.sides.source × OfRegisters u.sides.destination };
+
+    ghost unit_of = { λ u. move_unit u.sides };
+
+    fn start(self, position: Position) -> Position {
+        self.sides.started(position)
+    }
+
+    fn walk_unit(
+        self,
+        position: Position,
+        registers: &mut [u64; REGISTERS],
+        memory: &mut [u8],
+    ) -> Ran {
+        let sides = self.sides;
+        let i = position.source;
+        let j = position.destination;
+        let value = registers[sides.source.register(i)];
+        sides.put(position, 2, registers, i, j, value)
     }
 }

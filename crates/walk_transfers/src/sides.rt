@@ -2,7 +2,7 @@
 ghost use Rattle.std.specs.Prelude.{◌≡◌, true, ◌⊎◌, ◌<◌, ◌≤◌};
 ghost use Rattle.registers.specs.Written.{written};
 ghost use Rattle.walk_operands.specs.Place.{register_at};
-ghost use Rattle.walk_transfers.specs.SidesReady.{SidesReady, Stands, Within};
+ghost use Rattle.walk_transfers.specs.SidesReady.{Standing};
 ghost use Rattle.walk_transfers.specs.Transfer.{started, pair_of, after_pair};
 
 use registers::{REGISTERS, write_within};
@@ -21,7 +21,7 @@ pub struct Sides {
 impl Sides {
     // The pair that a unit works at, from where both sides stand.
     pub fn find(self, position: Position) -> Pair
-        requires { SidesReady self × Within self.vl position × Stands self position }
+        requires { Standing self position }
         ensures { result ≡ pair_of self position }
     {
         find_pair(

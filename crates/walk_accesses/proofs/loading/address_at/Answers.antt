@@ -8,7 +8,7 @@ use Rattle.walk_accesses.proofs.loading.address_at.Goals as goal
 pub returns-then-place : goal.returns-then-place
 unfolding address_at
 returns-then-place c =
-    rw (c.wrapping_add.ensures, c.at.ensures, c.if-place.true)
+    rw (c.at.ensures, c.if-place.true)
 
 -- every position of a scalar has its register
 register_at-scalar : (p : Place) (i : ℕ) → p.vector ≡ false → register_at p i ≡ p.register
@@ -31,8 +31,6 @@ pub returns : goal.returns
 unfolding address_at
 returns c =
     rw (
-      c.wrapping_add-2.ensures,
-      c.wrapping_add-distance.ensures,
       c.bytes.ensures,
       register_at-scalar c.args.place c.args.i c.if-place.false,
       c.if-place.false,

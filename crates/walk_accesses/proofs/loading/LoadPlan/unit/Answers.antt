@@ -7,7 +7,7 @@ use Rattle.walk_transfers.proofs.Standing.{Reached, reached, destination_registe
 use Rattle.walk_transfers.proofs.TransferLaws.{unit_end, unit_found, unit_zeroed, unit_moved, unit_refused}
 use Rattle.walk_accesses.specs.Loading.{load_unit}
 use Rattle.walk_accesses.proofs.Elements.{where_misaligned, where_aligned-aligned, load_element-at}
-use Rattle.walk_accesses.proofs.loading.LoadPlan.unit.Goals.{in-Found+else-not-aligned+in-Value, in-Zeroed}
+use Rattle.walk_accesses.proofs.loading.LoadPlan.unit.Goals.{in-Found+else-not-aligned+in-Ok, in-Zeroed}
 use Rattle.walk_accesses.proofs.loading.LoadPlan.unit.Goals as goal
 
 pub address_at-address-requires : goal.address_at-address-requires
@@ -23,7 +23,7 @@ put-requires-clause-i_lt_vl c =
     let said = sym c.find.ensures in
     let r : Reached c.args.self.sides c.match-find.i c.match-find.j =
     elim c.match-find.branch [
-      | in-Found+else-not-aligned+in-Value w ↦ reached _ _ _ _ ready.1 (rw (w.i-is, w.j-is) (inl (said ∙ w.in-Found.is)))
+      | in-Found+else-not-aligned+in-Ok w ↦ reached _ _ _ _ ready.1 (rw (w.i-is, w.j-is) (inl (said ∙ w.in-Found.is)))
       | in-Zeroed w ↦ reached _ _ _ _ ready.1 (rw (w.i-is, w.j-is) (inr (said ∙ w.in-Zeroed.is)))
     ] in
     (r.i_below, r.j_below, ready.0.most)
@@ -34,7 +34,7 @@ put-requires-clause-register c =
     let said = sym c.find.ensures in
     let r : Reached c.args.self.sides c.match-find.i c.match-find.j =
     elim c.match-find.branch [
-      | in-Found+else-not-aligned+in-Value w ↦ reached _ _ _ _ ready.1 (rw (w.i-is, w.j-is) (inl (said ∙ w.in-Found.is)))
+      | in-Found+else-not-aligned+in-Ok w ↦ reached _ _ _ _ ready.1 (rw (w.i-is, w.j-is) (inl (said ∙ w.in-Found.is)))
       | in-Zeroed w ↦ reached _ _ _ _ ready.1 (rw (w.i-is, w.j-is) (inr (said ∙ w.in-Zeroed.is)))
     ] in
     destination_register ready.0 r c.requires.registers
@@ -51,12 +51,12 @@ returns-then-not-aligned c =
     (unit_refused _ _ _ _ _ _ _ _ (unit_found _ _ _ _ _ _ c.find.ensures _ _ c.in-Found.is) _ _
     (load_element-at _ _ _ _ _ c.address_at-address.ensures ∙ where_misaligned _ _ _ misaligned))
 
-pub returns-in-Outside : goal.returns-in-Outside
+pub returns-in-Err : goal.returns-in-Err
 unfolding load_unit
-returns-in-Outside c =
+returns-in-Err c =
     let aligned = holds c.aligned.ensures c.if-not-aligned.false in
-    let outside = sym c.load_value.ensures ∙ c.in-Outside.is in
-    rw c.faulted-in-Outside.ensures
+    let outside = sym c.load_value.ensures ∙ c.in-Err.is in
+    rw c.faulted-in-Err.ensures
     (unit_refused _ _ _ _ _ _ _ _ (unit_found _ _ _ _ _ _ c.find.ensures _ _ c.in-Found.is) Outside
     c.address_at-address.result
     (load_element-at _ _ _ _ _ c.address_at-address.ensures ∙ where_aligned-aligned _ _ _ aligned ∙ rw outside))
@@ -67,9 +67,9 @@ returns c =
     let said = c.find.ensures in
     rw (c.put.ensures.ran, c.put.ensures.registers)
     (elim c.match-find.branch [
-      | in-Found+else-not-aligned+in-Value w ↦
+      | in-Found+else-not-aligned+in-Ok w ↦
           let aligned = holds w.aligned.ensures w.if-not-aligned.false in
-          let value = sym w.load_value.ensures ∙ w.in-Value.is in
+          let value = sym w.load_value.ensures ∙ w.in-Ok.is in
           rw (w.i-is, w.j-is, w.value-is)
           (unit_moved _ _ _ _ _ _ _ _ (unit_found _ _ _ _ _ _ said _ _ w.in-Found.is) _ _
           (load_element-at _ _ _ _ _ w.address_at-address.ensures ∙ where_aligned-aligned _ _ _ aligned ∙ rw value))

@@ -98,9 +98,9 @@ returns-then-not-aligned c =
     (unit_refused _ _ _ _ _ _ _ _ (told_value _ _ _ _ _ _ pair value) _ _
     (store_value-at _ _ _ _ _ c.address_at-address.ensures ∙ where_misaligned _ _ _ misaligned))
 
-pub returns-in-Done : goal.returns-in-Done
+pub returns-in-Ok : goal.returns-in-Ok
 unfolding store_unit
-returns-in-Done c =
+returns-in-Ok c =
     let said = sym c.find.ensures in
     let pair : Told (pair_of c.args.self.sides c.args.position) c.match-find.i c.match-find.j c.match-find.zeroed =
     elim c.match-find.branch [
@@ -114,14 +114,14 @@ returns-in-Done c =
       | else-zeroed w ↦ inr (w.if-zeroed.false, rw w.register.ensures at w.value-is)
     ] in
     let aligned = holds c.aligned.ensures c.if-not-aligned.false in
-    let done = sym c.put.ensures.answer ∙ c.in-Done.is in
+    let done = sym c.put.ensures.answer ∙ c.in-Ok.is in
     rw (c.after.ensures, c.put.ensures.bytes)
     (unit_moved _ _ _ _ _ _ _ _ (told_value _ _ _ _ _ _ pair value) _ _
     (store_value-at _ _ _ _ _ c.address_at-address.ensures ∙ where_aligned-aligned _ _ _ aligned ∙ rw done))
 
-pub returns-in-Outside : goal.returns-in-Outside
+pub returns-in-Err : goal.returns-in-Err
 unfolding store_unit
-returns-in-Outside c =
+returns-in-Err c =
     let said = sym c.find.ensures in
     let pair : Told (pair_of c.args.self.sides c.args.position) c.match-find.i c.match-find.j c.match-find.zeroed =
     elim c.match-find.branch [
@@ -135,7 +135,7 @@ returns-in-Outside c =
       | else-zeroed w ↦ inr (w.if-zeroed.false, rw w.register.ensures at w.value-is)
     ] in
     let aligned = holds c.aligned.ensures c.if-not-aligned.false in
-    let outside = sym c.put.ensures.answer ∙ c.in-Outside.is in
-    rw (c.faulted-in-Outside.ensures, c.put.ensures.bytes, stored_outside _ _ _ _ outside)
+    let outside = sym c.put.ensures.answer ∙ c.in-Err.is in
+    rw (c.faulted-in-Err.ensures, c.put.ensures.bytes, stored_outside _ _ _ _ outside)
     (unit_refused _ _ _ _ _ _ _ _ (told_value _ _ _ _ _ _ pair value) Outside c.address_at-address.result
     (store_value-at _ _ _ _ _ c.address_at-address.ensures ∙ where_aligned-aligned _ _ _ aligned ∙ rw outside))

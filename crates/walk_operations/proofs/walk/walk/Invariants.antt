@@ -1,0 +1,14 @@
+use Rattle.std.proofs.Common.{◌≡◌, ◌-◌}
+use Rattle.walk_pausable.specs.Walk.{walk}
+use Rattle.walk_operations.specs.Context.{context, pausing}
+use Rattle.walk_operations.proofs.walk.walk.Given as goal
+
+-- what is left to walk from here is the walk from where the first unit begins
+abbrev pub invariant-loop-done : goal.invariant-loop-done
+invariant-loop-done g l =
+    let unit = g.P.Plan.unit_of l.plan in
+    g.P.Plan.stands l.plan l.current
+    × (
+    walk pausing unit (l.allowance - l._done) (context l.registers l.memory l.current)
+    ≡ walk pausing unit l.allowance (context l.initial.registers l.initial.memory l.initial.current)
+    )

@@ -1,0 +1,72 @@
+// The walk of any plan: one unit after another, in place.
+ghost use Rattle.std.specs.Prelude.{◌≡◌, true};
+ghost use Rattle.answers.specs.Answer.{pauses};
+ghost use Rattle.walk_pausable.specs.Walk.{walk};
+ghost use Rattle.walk_operations.specs.Context.{context, outcome_of, pausing};
+ghost use Rattle.walk_operations.specs.Plan.{Standing, UnitOf, SameWalk};
+
+use crate::position::{Position, Ran};
+use answers::Answer;
+use registers::REGISTERS;
+
+// An instruction whose operands are resolved and whose masks are read.
+pub trait Plan: Copy {
+    // Where an instruction may stand, and where each of its units begins.
+    ghost begins: { Standing Self };
+
+    ghost stands: { Standing Self };
+
+    // What a unit does.
+    ghost unit_of: { UnitOf Self };
+
+    // Where the first unit begins.
+    fn start(self, position: Position) -> Position
+        requires { begins self position }
+        ensures stands { stands self result }
+        ensures same { SameWalk (unit_of self) position result };
+
+    // One unit.
+    fn walk_unit(
+        self,
+        position: Position,
+        registers: &mut [u64; REGISTERS],
+        memory: &mut [u8],
+    ) -> Ran
+        requires { stands self position }
+        ensures ran { let start = context registers.old memory.old position in
+            outcome_of result registers.new memory.new ≡ unit_of self start }
+        ensures stands { pauses result.answer ≡ true → stands self result.position };
+}
+
+// At most as many units as allowed.
+pub fn walk<P: Plan>(
+    plan: P,
+    position: Position,
+    allowance: u16,
+    registers: &mut [u64; REGISTERS],
+    memory: &mut [u8],
+) -> Ran
+    requires { P.begins plan position }
+    ensures { let start = context registers.old memory.old position in
+        outcome_of result registers.new memory.new ≡ walk pausing (P.unit_of plan) allowance start }
+{
+    if allowance == 0 {
+        return Ran {
+            answer: Answer::Paused,
+            position,
+        };
+    }
+    let mut current = plan.start(position);
+    for _done in 0..allowance {
+        let ran = plan.walk_unit(current, registers, memory);
+        let answer = ran.answer;
+        if !answer.pauses() {
+            return ran;
+        }
+        current = ran.position;
+    }
+    Ran {
+        answer: Answer::Paused,
+        position: current,
+    }
+}
