@@ -1,5 +1,5 @@
 -- The calls that read one thing out. Each changes nothing.
-use Rattle.std.specs.Prelude.{ℕ, true, ltb, get_or}
+use Rattle.std.specs.Prelude.{ℕ, true, List, ltb, get_or}
 use Rattle.answers.specs.declared.Answer.TheVariants.{Done}
 use Rattle.state_word.specs.State.{word_of}
 use Rattle.machine.specs.declared.Machine.{Machine}
@@ -24,6 +24,10 @@ read_pc m = read_field m m.pc
 
 abbrev pub read_state_word : Machine → Reply
 read_state_word m = read_field m (word_of m.state)
+
+-- an entry of one of the two tables
+abbrev pub read_entry : Machine → List ℕ → ℕ → Reply
+read_entry m entries i = guarded m (ltb i 16) (Done 0) (done m (get_or entries i 0))
 
 unfoldable pub read_register_entry : Machine → ℕ → Reply
 read_register_entry m i = guarded m (ltb i 16) (Done 0) (done m (get_or m.register_table i 0))

@@ -1,10 +1,11 @@
 -- The calls that set one thing, as document 01's section "Setting calls" has them.
-use Rattle.std.specs.Prelude.{ℕ, ◌+◌, true, leb, ltb, set}
+use Rattle.std.specs.Prelude.{ℕ, ◌+◌, Bool, true, leb, ltb, set}
 use Rattle.answers.specs.declared.Answer.TheVariants.{Done}
 use Rattle.answers.specs.Verdict.{valid}
 use Rattle.registers.specs.Written.{written}
 use Rattle.tables.specs.Entry.{bit0_clear}
 use Rattle.state_word.specs.State.{mvl_in_range, cfg_in_range, with_vl, with_mvl, with_cfg, of_word, cut, good_word}
+use Rattle.state_word.specs.declared.State.{State}
 use Rattle.machine.specs.declared.Machine.{Machine}
 use Rattle.machine.specs.declared.Reply.{Reply}
 use Rattle.machine.specs.Calls.{done, guarded}
@@ -21,6 +22,10 @@ set_vl m n = guarded m true (valid (leb 1 n)) (vl_set m n)
 -- immediate form: n from 0 to 31 sets min(n + 1, MVL)
 unfoldable pub set_vl_immediate : Machine → ℕ → Reply
 set_vl_immediate m n = guarded m true (valid (leb n 31)) (vl_set m (n + 1))
+
+-- a setting that becomes the state, by whether its value can be taken
+abbrev pub set_state : Machine → Bool → State → Reply
+set_state m taken state = guarded m true (valid taken) (done (with_state m state) 0)
 
 unfoldable pub set_mvl : Machine → ℕ → Reply
 set_mvl m n = guarded m true (valid (mvl_in_range n)) (done (with_state m (with_mvl m.state n)) 0)

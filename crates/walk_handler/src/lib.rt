@@ -12,6 +12,7 @@ use answers::Answer;
 use decode::decoded::Decoded;
 use registers::REGISTERS;
 use walk_operations::position::{Position, Ran};
+use walk_operations::walk::walk;
 use walk_plans::checks::checked;
 use walk_plans::planning::{load_plan, move_plan, operation_plan, store_plan};
 
@@ -32,19 +33,19 @@ fn walk_word(
     match word {
         Decoded::Operation(w) => {
             let plan = operation_plan(w, vl, registers);
-            plan.walk(position, allowance, registers)
+            walk(plan, position, allowance, registers, memory)
         }
         Decoded::Move(w) => {
             let plan = move_plan(w, vl, registers);
-            plan.move_walk(position, allowance, registers)
+            plan.move_walk(position, allowance, registers, memory)
         }
         Decoded::Load(w) => {
             let plan = load_plan(w, vl, registers);
-            plan.walk(position, allowance, registers, memory)
+            walk(plan, position, allowance, registers, memory)
         }
         Decoded::Store(w) => {
             let plan = store_plan(w, vl, registers);
-            plan.walk(position, allowance, registers, memory)
+            walk(plan, position, allowance, registers, memory)
         }
         Decoded::Unknown => Ran {
             answer: Answer::UnknownWord,

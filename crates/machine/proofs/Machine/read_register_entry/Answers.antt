@@ -1,6 +1,0 @@
-use Rattle.machine.specs.Reading.{read_register_entry}
-use Rattle.machine.proofs.Machine.read_register_entry.Goals as goal
-
-pub returns : goal.returns
-unfolding read_register_entry
-returns c = rw (c.guarded.ensures, c.done.ensures, c.entry_at-entry.ensures)
