@@ -6,10 +6,8 @@ use mathlib.Core.List.{List}
 use native.Mathlib.Omega.{arith}
 use Rattle.decode.specs.declared.decoded.Decoded.{Decoded}
 use Rattle.decode.specs.declared.decoded.Decoded.TheVariants.{Operation, Move, Load, Store, Unknown}
-use Rattle.memory.specs.declared.load.Loaded.{Loaded}
-use Rattle.memory.specs.declared.load.Loaded.TheVariants as loads
-use Rattle.memory.specs.declared.store.Stored.{Stored}
-use Rattle.memory.specs.declared.store.Stored.TheVariants as stores
+use Rattle.std.specs.Prelude.{⊤, Result, Ok, Err}
+use Rattle.memory.specs.declared.access.Outside.{Outside}
 use Rattle.memory.specs.Transfer.{store_answer}
 use Rattle.scalar.specs.Width.{bytes_of}
 use Rattle.walk_operands.specs.Place.{register_at}
@@ -64,9 +62,9 @@ module _ (Writes : ℕ → Type 0) (c : Context) where
       where_aligned_kept address (bytes_of p.width) _
       (by address (load_value c.memory address p.width p.signed))
     where
-      by : (address : ℕ) (l : Loaded) → TransferKept Writes c.registers (loaded_to p c address j l)
-      by address (loads.Value value) = one_written c.registers (register_at p.sides.destination.place j) _ w
-      by address loads.Outside = tt
+      by : (address : ℕ) (l : Result ℕ Outside) → TransferKept Writes c.registers (loaded_to p c address j l)
+      by address (Ok value) = one_written c.registers (register_at p.sides.destination.place j) _ w
+      by address (Err outside) = tt
 
   store_kept : (p : StorePlan) (j value : ℕ) → TransferKept Writes c.registers (store_value p c j value)
   unfolding store_value
@@ -75,9 +73,9 @@ module _ (Writes : ℕ → Type 0) (c : Context) where
       where_aligned_kept address (bytes_of p.width) _
       (by address (store_answer c.memory address (bytes_of p.width)))
     where
-      by : (address : ℕ) (s : Stored) → TransferKept Writes c.registers (stored_to p c address value s)
-      by address stores.Done = unwritten c.registers
-      by address stores.Outside = tt
+      by : (address : ℕ) (s : Result ⊤ Outside) → TransferKept Writes c.registers (stored_to p c address value s)
+      by address (Ok done) = unwritten c.registers
+      by address (Err outside) = tt
 
 module _ (vl : ℕ) (registers : List ℕ) (c : Context) (within : Within vl c.position) where
   pub unit_sound :

@@ -10,8 +10,7 @@ use Rattle.bits.specs.Bits.{bits}
 use Rattle.tables.specs.Entry.{register_entry}
 use Rattle.tables.specs.Enabled.{enabled_range}
 use Rattle.search.specs.Search.{held_entry}
-use Rattle.search.specs.declared.Held.{Held}
-use Rattle.search.specs.declared.Held.TheVariants.{At, Nothing}
+use Rattle.std.specs.Prelude.{Option, Some, None}
 use Rattle.search.specs.declared.Table.TheVariants as table
 use Rattle.encoding.specs.declared.form.Form.{Form}
 use Rattle.encoding.specs.declared.form.Form.TheVariants as form
@@ -70,8 +69,8 @@ unfolding resolved
 resolved_small cfg register_table predicate_table key h =
     by (held_entry table.Register register_table (enabled_range cfg) key)
   where
-    by : (e : Held) → (place_by (operand_by e register_table key)).register < 128
-    by (At i) = entry (register_entry (get_or register_table i 0)).vector
+    by : (e : Option ℕ) → (place_by (operand_by e register_table key)).register < 128
+    by (Some i) = entry (register_entry (get_or register_table i 0)).vector
       where
         entry :
             (t : Bool) →
@@ -79,7 +78,7 @@ resolved_small cfg register_table predicate_table key h =
             (Scalar (register_entry (get_or register_table i 0)).register))).register < 128
         entry true = mod-lt _ (omega arith)
         entry false = mod-lt _ (omega arith)
-    by Nothing = omega (arith, h)
+    by None = omega (arith, h)
 
 pub word_small :
     (word cfg : ℕ) (register_table predicate_table : List ℕ) →

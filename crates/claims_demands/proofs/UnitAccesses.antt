@@ -3,7 +3,8 @@ use Prim.Native.Nat.{ℕ}
 use mathlib.Core.Path.{refl}
 use mathlib.Core.Bool.{Bool, true, false, cond}
 use lib.ListN.{length}
-use Rattle.memory.specs.declared.access.Access.TheVariants as access
+use Rattle.std.specs.Prelude.{Result, Ok, Err}
+use Rattle.memory.specs.declared.access.Outside.{Outside}
 use Rattle.memory.specs.Access.{inside, located}
 use Rattle.memory.specs.Transfer.{loaded_from, loaded, answer_to, store_answer}
 use Rattle.scalar.specs.Width.{bytes_of}
@@ -34,7 +35,7 @@ load_by_memory p c address j = by (inside (length c.memory) address (bytes_of p.
         ByMemory address
         (loaded_to p c address j
         (widened p.signed p.width
-        (loaded_from c.memory (bytes_of p.width) (cond whole (access.Inside address) access.Outside)))) whole
+        (loaded_from c.memory (bytes_of p.width) (cond {A = Result ℕ Outside} whole (Ok address) (Err record {}))))) whole
     by true = refl
     by false = (refl, refl, refl)
 
@@ -48,7 +49,7 @@ store_by_memory p c address value = by (inside (length c.memory) address (bytes_
     by :
         (whole : Bool) →
         ByMemory address
-        (stored_to p c address value (answer_to (cond whole (access.Inside address) access.Outside))) whole
+        (stored_to p c address value (answer_to (cond {A = Result ℕ Outside} whole (Ok address) (Err record {})))) whole
     by true = refl
     by false = (refl, refl, refl)
 

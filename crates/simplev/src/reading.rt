@@ -120,7 +120,7 @@ pub extern "C" fn simplev_read_state_word<'a>(
         predicate_table,
         true,
         Answer::Done(0),
-        state.word() as u64,
+        u64::from(u32::from(state)),
         value,
     )
 }

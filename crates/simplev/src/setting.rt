@@ -151,7 +151,7 @@ pub extern "C" fn simplev_set_state_word<'a>(
         Replies (set_state_word m word) result value.new after }
 {
     let pc = control[PC];
-    let state = State::of_word(word).cut();
+    let state = State::from(word).cut();
     set_control(
         registers,
         control,

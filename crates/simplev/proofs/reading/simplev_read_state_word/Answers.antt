@@ -7,4 +7,4 @@ pub returns : goal.returns
 returns c =
     let made = c in
     replies_same _ _ _ _ _ c.guarded.ensures
-    (λ shaped there. rw (made.word.ensures, all_bits made.state_of-state.ensures (parts _ shaped).state))
+    (λ shaped there. rw (c.from-2.ensures, c.from.ensures, all_bits made.state_of-state.ensures (parts _ shaped).state))
