@@ -1,5 +1,5 @@
 -- The search from the highest index down.
-use Prim.Native.Nat.{ℕ, zero, suc, ◌-◌, ◌≤◌, ◌<◌}
+use Prim.Native.Nat.{ℕ, zero, suc, ◌+◌, ◌-◌, ◌≤◌, ◌<◌}
 use mathlib.Core.Path.{◌≡◌, refl, sym, ◌∙◌, ap}
 use mathlib.Core.Bool.{Bool, true, false, and-false}
 use mathlib.Core.List.{List}
@@ -90,30 +90,30 @@ unfolding entry_answers
 empty_silent Register key = refl
 empty_silent Predicate key = refl
 
-module _ (table : Table) (entries : List ℕ) (first end : ℕ) (empty : get_or entries (end - 1) 0 ≡ 0) (key : ℕ) where
+module _ (table : Table) (entries : List ℕ) (first end : ℕ) (empty : get_or entries end 0 ≡ 0) (key : ℕ) where
   abbrev shorter : Range
-  shorter = record { first = first; end = end - 1 }
+  shorter = record { first = first; end = end }
 
   abbrev longer : Range
-  longer = record { first = first; end = end }
+  longer = record { first = first; end = end + 1 }
 
-  ltb_same : (k : ℕ) → (k ≡ end - 1 → ⊥) → ltb k (end - 1) ≡ ltb k end
-  ltb_same k other = by (ltb k (end - 1)) refl
+  ltb_same : (k : ℕ) → (k ≡ end → ⊥) → ltb k end ≡ ltb k (end + 1)
+  ltb_same k other = by (ltb k end) refl
     where
-      by : (t : Bool) → ltb k (end - 1) ≡ t → ltb k (end - 1) ≡ ltb k end
-      by true e = rw (e, lt-ltb k end (omega (arith, ltb-true k (end - 1) e)))
-      by false e = rw (e, le-ltb k end (omega (arith, ltb-false k (end - 1) e, other)))
+      by : (t : Bool) → ltb k end ≡ t → ltb k end ≡ ltb k (end + 1)
+      by true e = rw (e, lt-ltb k (end + 1) (omega (arith, ltb-true k end e)))
+      by false e = rw (e, le-ltb k (end + 1) (omega (arith, ltb-false k end e, other)))
 
   same_candidate : (k : ℕ) → candidate table entries shorter key k ≡ candidate table entries longer key k
-  same_candidate k = by (eqb k (end - 1)) refl
+  same_candidate k = by (eqb k end) refl
     where
-      by : (t : Bool) → eqb k (end - 1) ≡ t → candidate table entries shorter key k ≡ candidate table entries longer key k
+      by : (t : Bool) → eqb k end ≡ t → candidate table entries shorter key k ≡ candidate table entries longer key k
       by true e =
           let quiet : entry_answers table key (get_or entries k 0) ≡ false =
-          rw (eqb-true k (end - 1) e, empty) (empty_silent table key)
+          rw (eqb-true k end e, empty) (empty_silent table key)
           in
           silent table entries shorter key k quiet ∙ sym (silent table entries longer key k quiet)
-      by false e = unfold candidate in rw (ltb_same k (eqb-false k (end - 1) e))
+      by false e = unfold candidate in rw (ltb_same k (eqb-false k end e))
 
   -- the last entry of a range makes no difference where it is empty
   pub held_shorter : held_entry table entries shorter key ≡ held_entry table entries longer key

@@ -31,7 +31,7 @@ pub fn entry_answers(table: Table, key: u8, word: u16) -> bool
 }
 
 // The enabled entries up to the last that isn't empty in both tables. Most tables have few entries, and an empty one
-// answers to no key.
+// answers to no key. Two entries are tested in a turn, since an enabled range has an even number of them.
 pub fn used_range<'a>(
     cfg: u32,
     register_table: &'a [u16; ENTRIES],
@@ -39,14 +39,17 @@ pub fn used_range<'a>(
 ) -> Range
     ensures { FindsEnabled cfg register_table.now predicate_table.now result }
 {
-    let mut range = enabled_range(cfg);
-    for i in (range.first..range.end).rev() {
-        if (register_table[i] != 0) | (predicate_table[i] != 0) {
-            break;
+    let Range { first, end } = enabled_range(cfg);
+    for pair in (first / 2..end / 2).rev() {
+        let i = 2 * pair;
+        if (register_table[i + 1] != 0) | (predicate_table[i + 1] != 0) {
+            return Range { first, end: i + 2 };
         }
-        range.end = i;
+        if (register_table[i] != 0) | (predicate_table[i] != 0) {
+            return Range { first, end: i + 1 };
+        }
     }
-    range
+    Range { first, end: first }
 }
 
 // The index of the entry of a range that holds for a key, if one does.

@@ -45,3 +45,15 @@ module _ (cfg : ℕ) where
       by : (t : Bool) → cond t (2 * (cfg / 1 % 8)) (min 16 (2 * (cfg / 1 % 8) + 2 ^ (cfg / 8 % 4 + 1))) % 2 ≡ 0
       by true = omega arith
       by false = omega (arith, (power (cfg / 8 % 4) (omega arith)).0)
+
+  pub first_even : (enabled_range cfg).first % 2 ≡ 0
+  unfolding enabled_range
+  first_even = omega arith
+
+  pub first_low : (enabled_range cfg).first ≤ (enabled_range cfg).end
+  unfolding enabled_range
+  first_low = by (eqb cfg 31)
+    where
+      by : (t : Bool) → 2 * (cfg / 1 % 8) ≤ cond t (2 * (cfg / 1 % 8)) (min 16 (2 * (cfg / 1 % 8) + 2 ^ (cfg / 8 % 4 + 1)))
+      by true = omega arith
+      by false = omega arith

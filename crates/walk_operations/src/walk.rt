@@ -57,7 +57,7 @@ pub fn walk<P: Plan>(
         };
     }
     let mut current = plan.start(position);
-    for _done in 0..allowance {
+    for _done in 0..usize::from(allowance) {
         let ran = plan.walk_unit(current, registers, memory);
         let answer = ran.answer;
         if !answer.pauses() {
