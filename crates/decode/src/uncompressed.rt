@@ -34,10 +34,7 @@ fn first_key(form: Form, word: u32) -> u8
 fn is_access(form: Form) -> bool
     ensures { result ≡ is_access form }
 {
-    matches!(
-        form,
-        Form::Load(_) | Form::LoadUnsigned(_) | Form::Store(_)
-    )
+    matches!(form, Form::Load(_) | Form::LoadUnsigned(_) | Form::Store(_))
 }
 
 // The word of the predicate entry of rs1, where its mask counts.

@@ -50,7 +50,13 @@ impl Machine {
     pub fn set_cfg(self, n: u32) -> Reply
         ensures { result ≡ set_cfg self n }
     {
-        self.set_state(n <= 31, State { cfg: n, ..self.state })
+        self.set_state(
+            n <= 31,
+            State {
+                cfg: n,
+                ..self.state
+            },
+        )
     }
 
     #[tactic(auto, unfolding(crate::specs::Setting::set_state_word))]
@@ -66,7 +72,11 @@ impl Machine {
     {
         let exists = (index as usize) < Machine::ENTRIES;
         let register_table = with_entry(self.register_table, index, entry);
-        let reply = Machine { register_table, ..self }.done(0);
+        let reply = Machine {
+            register_table,
+            ..self
+        }
+        .done(0);
         self.guarded(exists, Answer::Done(0), reply)
     }
 
@@ -76,7 +86,11 @@ impl Machine {
     {
         let exists = (index as usize) < Machine::ENTRIES;
         let predicate_table = with_entry(self.predicate_table, index, entry);
-        let reply = Machine { predicate_table, ..self }.done(0);
+        let reply = Machine {
+            predicate_table,
+            ..self
+        }
+        .done(0);
         self.guarded(exists, valid(!(entry % 2 == 1)), reply)
     }
 

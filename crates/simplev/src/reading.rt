@@ -6,7 +6,7 @@ ghost use Rattle.simplev_arrays.specs.Leaves.{Replies};
 
 use answers::Answer;
 use registers::REGISTERS;
-use simplev_arrays::{CFG, CONTROL_WORDS, MVL, PC, VL, entry_at, guarded, register_at, state_of};
+use simplev_arrays::{CFG, CONTROL_WORDS, Lent, MVL, PC, VL, element_at, state_of, write_answer};
 use tables::ENTRIES;
 
 #[unsafe(no_mangle)]
@@ -20,16 +20,13 @@ pub extern "C" fn simplev_read_vl<'a>(
     ensures { let m = machine_in registers.entry control.entry register_table.entry predicate_table.entry in
         Replies (read_vl m) result value.new m }
 {
-    guarded(
+    let lent = Lent {
         registers,
         control,
         register_table,
         predicate_table,
-        true,
-        Answer::Done(0),
-        control[VL],
-        value,
-    )
+    };
+    write_answer(lent.answer(true, Answer::Done(0), control[VL]), value)
 }
 
 #[unsafe(no_mangle)]
@@ -43,16 +40,13 @@ pub extern "C" fn simplev_read_mvl<'a>(
     ensures { let m = machine_in registers.entry control.entry register_table.entry predicate_table.entry in
         Replies (read_mvl m) result value.new m }
 {
-    guarded(
+    let lent = Lent {
         registers,
         control,
         register_table,
         predicate_table,
-        true,
-        Answer::Done(0),
-        control[MVL],
-        value,
-    )
+    };
+    write_answer(lent.answer(true, Answer::Done(0), control[MVL]), value)
 }
 
 #[unsafe(no_mangle)]
@@ -66,16 +60,13 @@ pub extern "C" fn simplev_read_cfg<'a>(
     ensures { let m = machine_in registers.entry control.entry register_table.entry predicate_table.entry in
         Replies (read_cfg m) result value.new m }
 {
-    guarded(
+    let lent = Lent {
         registers,
         control,
         register_table,
         predicate_table,
-        true,
-        Answer::Done(0),
-        control[CFG],
-        value,
-    )
+    };
+    write_answer(lent.answer(true, Answer::Done(0), control[CFG]), value)
 }
 
 #[unsafe(no_mangle)]
@@ -89,16 +80,13 @@ pub extern "C" fn simplev_read_pc<'a>(
     ensures { let m = machine_in registers.entry control.entry register_table.entry predicate_table.entry in
         Replies (read_pc m) result value.new m }
 {
-    guarded(
+    let lent = Lent {
         registers,
         control,
         register_table,
         predicate_table,
-        true,
-        Answer::Done(0),
-        control[PC],
-        value,
-    )
+    };
+    write_answer(lent.answer(true, Answer::Done(0), control[PC]), value)
 }
 
 #[unsafe(no_mangle)]
@@ -112,17 +100,14 @@ pub extern "C" fn simplev_read_state_word<'a>(
     ensures { let m = machine_in registers.entry control.entry register_table.entry predicate_table.entry in
         Replies (read_state_word m) result value.new m }
 {
-    let state = state_of(control);
-    guarded(
+    let word = u32::from(state_of(control));
+    let lent = Lent {
         registers,
         control,
         register_table,
         predicate_table,
-        true,
-        Answer::Done(0),
-        u64::from(u32::from(state)),
-        value,
-    )
+    };
+    write_answer(lent.answer(true, Answer::Done(0), u64::from(word)), value)
 }
 
 #[unsafe(no_mangle)]
@@ -138,17 +123,15 @@ pub extern "C" fn simplev_read_register<'a>(
     ensures { let m = machine_in registers.entry control.entry register_table.entry predicate_table.entry in
         Replies (read_register m index) result value.new m }
 {
-    let register = register_at(registers, index);
-    guarded(
+    let exists = (index as usize) < REGISTERS;
+    let register = element_at(registers, index, 0);
+    let lent = Lent {
         registers,
         control,
         register_table,
         predicate_table,
-        (index as usize) < REGISTERS,
-        Answer::Done(0),
-        register,
-        value,
-    )
+    };
+    write_answer(lent.answer(exists, Answer::Done(0), register), value)
 }
 
 #[unsafe(no_mangle)]
@@ -164,15 +147,16 @@ pub extern "C" fn simplev_read_register_entry<'a>(
     ensures { let m = machine_in registers.entry control.entry register_table.entry predicate_table.entry in
         Replies (read_register_entry m index) result value.new m }
 {
-    let entry = entry_at(register_table, index);
-    guarded(
+    let exists = (index as usize) < ENTRIES;
+    let entry = element_at(register_table, index, 0);
+    let lent = Lent {
         registers,
         control,
         register_table,
         predicate_table,
-        (index as usize) < ENTRIES,
-        Answer::Done(0),
-        entry as u64,
+    };
+    write_answer(
+        lent.answer(exists, Answer::Done(0), u64::from(entry)),
         value,
     )
 }
@@ -190,15 +174,16 @@ pub extern "C" fn simplev_read_predicate_entry<'a>(
     ensures { let m = machine_in registers.entry control.entry register_table.entry predicate_table.entry in
         Replies (read_predicate_entry m index) result value.new m }
 {
-    let entry = entry_at(predicate_table, index);
-    guarded(
+    let exists = (index as usize) < ENTRIES;
+    let entry = element_at(predicate_table, index, 0);
+    let lent = Lent {
         registers,
         control,
         register_table,
         predicate_table,
-        (index as usize) < ENTRIES,
-        Answer::Done(0),
-        entry as u64,
+    };
+    write_answer(
+        lent.answer(exists, Answer::Done(0), u64::from(entry)),
         value,
     )
 }

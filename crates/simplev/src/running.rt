@@ -8,7 +8,7 @@ ghost use Rattle.simplev_arrays.specs.Leaves.{Leaves};
 use answers::Answer;
 use decode::decode;
 use registers::REGISTERS;
-use simplev_arrays::{CFG, CONTROL_WORDS, MVL, PC, VL, in_shape, state_of, write_answer};
+use simplev_arrays::{CFG, CONTROL_WORDS, Lent, MVL, PC, VL, state_of, write_answer};
 use tables::ENTRIES;
 use walk_operations::position::Position;
 
@@ -45,7 +45,13 @@ pub extern "C" fn simplev_run<'a>(
         Leaves (run word allowance (system m memory.old)) result address.new
         (system after memory.new) }
 {
-    if !in_shape(registers, control, register_table, predicate_table) {
+    let lent = Lent {
+        registers,
+        control,
+        register_table,
+        predicate_table,
+    };
+    if !lent.in_shape() {
         return write_answer(Answer::OutOfShape, address);
     }
     let state = state_of(control);

@@ -9,7 +9,7 @@ use answers::{Answer, valid};
 use machine::Machine;
 use registers::REGISTERS;
 use simplev_arrays::setting::{set_control, set_vl};
-use simplev_arrays::{CONTROL_WORDS, PC, guarded, state_of};
+use simplev_arrays::{CONTROL_WORDS, Lent, PC, state_of, write_answer};
 use state_word::{State, good_word};
 use tables::ENTRIES;
 
@@ -210,21 +210,17 @@ pub extern "C" fn simplev_set_register<'a>(
         let after = machine_of registers.new control.now register_table.now predicate_table.now in
         Replies (set_register m index value_in) result value.new after }
 {
-    let answer = guarded(
+    let lent = Lent {
         registers,
         control,
         register_table,
         predicate_table,
-        (index as usize) < REGISTERS,
-        Answer::Done(0),
-        0,
-        value,
-    );
-    if answer != 0 {
-        return answer;
+    };
+    let answer = lent.answer((index as usize) < REGISTERS, Answer::Done(0), 0);
+    if answer.accepts() {
+        registers::write(registers, index as usize, value_in);
     }
-    registers::write(registers, index as usize, value_in);
-    answer
+    write_answer(answer, value)
 }
 
 // Every entry is good.
@@ -243,21 +239,17 @@ pub extern "C" fn simplev_set_register_entry<'a>(
         let after = machine_of registers.now control.now register_table.new predicate_table.now in
         Replies (set_register_entry m index entry) result value.new after }
 {
-    let answer = guarded(
+    let lent = Lent {
         registers,
         control,
         register_table,
         predicate_table,
-        (index as usize) < ENTRIES,
-        Answer::Done(0),
-        0,
-        value,
-    );
-    if answer != 0 {
-        return answer;
+    };
+    let answer = lent.answer((index as usize) < ENTRIES, Answer::Done(0), 0);
+    if answer.accepts() {
+        put_entry(register_table, index, entry);
     }
-    put_entry(register_table, index, entry);
-    answer
+    write_answer(answer, value)
 }
 
 // An entry with bit 0 set is a bad value.
@@ -276,19 +268,15 @@ pub extern "C" fn simplev_set_predicate_entry<'a>(
         let after = machine_of registers.now control.now register_table.now predicate_table.new in
         Replies (set_predicate_entry m index entry) result value.new after }
 {
-    let answer = guarded(
+    let lent = Lent {
         registers,
         control,
         register_table,
         predicate_table,
-        (index as usize) < ENTRIES,
-        valid(!(entry % 2 == 1)),
-        0,
-        value,
-    );
-    if answer != 0 {
-        return answer;
+    };
+    let answer = lent.answer((index as usize) < ENTRIES, valid(!(entry % 2 == 1)), 0);
+    if answer.accepts() {
+        put_entry(predicate_table, index, entry);
     }
-    put_entry(predicate_table, index, entry);
-    answer
+    write_answer(answer, value)
 }

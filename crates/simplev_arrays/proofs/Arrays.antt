@@ -10,7 +10,7 @@ use borrow.Author.Tests.{lt-ltb, le-ltb}
 use Rattle.state_word.specs.declared.State.{State}
 use Rattle.state_word.specs.State.{state_in_shape}
 use Rattle.state_word.proofs.States.{bounds}
-use Rattle.simplev_arrays.specs.Layout.{low_bits, element_at, ControlBack, Faithful}
+use Rattle.simplev_arrays.specs.Layout.{low_bits, ControlBack, Faithful}
 
 control_back : (control : List ℕ) → ControlBack control
 control_back (a ∷ b ∷ c ∷ d ∷ e ∷ f ∷ []) h = refl
@@ -40,13 +40,3 @@ all_bits {s} e shaped =
       low_word-number s.source (omega arith),
       low_word-number s.destination (omega arith),
     )
-
--- a read of an array of a size, by its test of the index
-module _ (size : ℕ) (elements : List ℕ) (index : ℕ) where
-  pub element_missing : size ≤ index → 0 ≡ element_at size elements index
-  unfolding element_at
-  element_missing h = rw (le-ltb index size h)
-
-  pub element_there : index < size → get_or elements index 0 ≡ element_at size elements index
-  unfolding element_at
-  element_there h = rw (lt-ltb index size h)

@@ -3,6 +3,7 @@ use Rattle.std.specs.Prelude.{ℕ, ◌%◌, ◌^◌, ◌≡◌, cond, List, [], 
 use Rattle.std.specs.Borrow.{Bor}
 use Rattle.state_word.specs.declared.State.{State}
 use Rattle.machine.specs.declared.Machine.{Machine}
+use Rattle.simplev_arrays.specs.declared.Lent.{Lent}
 
 -- the control words after the first
 abbrev pub state_of : List ℕ → State
@@ -24,15 +25,9 @@ low_bits s = record {
   destination = s.destination % 2 ^ 32;
 }
 
--- an element of an array of a size, and 0 where there is none
-unfoldable pub element_at : ℕ → List ℕ → ℕ → ℕ
-element_at size elements index = cond (ltb index size) (get_or elements index 0) 0
-
-abbrev pub register_at : List ℕ → ℕ → ℕ
-register_at registers index = element_at 128 registers index
-
-abbrev pub entry_at : List ℕ → ℕ → ℕ
-entry_at entries index = element_at 16 entries index
+-- an element of an array of a size, and another value where there is none
+unfoldable pub element_at : {A : Type 0} → ℕ → List A → ℕ → A → A
+element_at size elements index missing = cond (ltb index size) (get_or elements index missing) missing
 
 -- the machine that four arrays hold
 abbrev pub machine_of : List ℕ → List ℕ → List ℕ → List ℕ → Machine
@@ -48,6 +43,9 @@ machine_of registers control register_table predicate_table = record {
 abbrev pub machine_in : Bor (List ℕ) → Bor (List ℕ) → Bor (List ℕ) → Bor (List ℕ) → Machine
 machine_in registers control register_table predicate_table =
     machine_of registers.now control.now register_table.now predicate_table.now
+
+abbrev pub machine_lent : Lent → Machine
+machine_lent lent = machine_in lent.registers lent.control lent.register_table lent.predicate_table
 
 -- the control words of a program counter and a state
 abbrev pub control_of : ℕ → State → List ℕ

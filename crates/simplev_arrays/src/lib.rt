@@ -4,8 +4,8 @@
 ghost use Rattle.std.specs.Prelude.{◌≡◌, true, length};
 ghost use Rattle.machine.specs.Shape.{in_shape, Sized};
 ghost use Rattle.machine.specs.Calls.{done, guarded};
-ghost use Rattle.simplev_arrays.specs.Layout.{state_of, low_bits, register_at, entry_at, machine_in};
-ghost use Rattle.simplev_arrays.specs.Leaves.{Says, Replies};
+ghost use Rattle.simplev_arrays.specs.Layout.{state_of, low_bits, element_at, machine_in, machine_lent};
+ghost use Rattle.simplev_arrays.specs.Leaves.{Says};
 
 use answers::{Answer, verdict};
 use machine::Machine;
@@ -31,25 +31,44 @@ pub const DESTINATION: usize = 5;
 
 pub const CONTROL_WORDS: usize = 6;
 
-// Whether none of the reasons of answer 6 applies. An offset below VL says that VL isn't 0.
-#[tactic(auto, unfolding(state_word::specs::State::state_in_shape, machine::specs::Shape::in_shape, machine::specs::Shape::room_in_shape, machine::specs::Shape::tables_in_shape))]
-pub fn in_shape<'a>(
-    registers: &'a [u64; REGISTERS],
-    control: &'a [u64; CONTROL_WORDS],
-    register_table: &'a [u16; ENTRIES],
-    predicate_table: &'a [u16; ENTRIES],
-) -> bool
-    ensures { let m = machine_in registers.entry control.entry register_table.entry predicate_table.entry in
-        result ≡ in_shape m }
-{
-    (1 <= control[MVL])
-        & (control[MVL] <= 64)
-        & (control[VL] <= control[MVL])
-        & (control[CFG] <= 31)
-        & (control[SOURCE] < control[VL])
-        & (control[DESTINATION] < control[VL])
-        & (registers[0] == 0)
-        & all_bit0_clear(predicate_table)
+// The arrays of a machine, to be read.
+#[derive(Clone, Copy)]
+pub struct Lent<'a> {
+    pub registers: &'a [u64; REGISTERS],
+    pub control: &'a [u64; CONTROL_WORDS],
+    pub register_table: &'a [u16; ENTRIES],
+    pub predicate_table: &'a [u16; ENTRIES],
+}
+
+impl<'a> Lent<'a> {
+    // Whether none of the reasons of answer 6 applies. An offset below VL says that VL isn't 0.
+    #[tactic(auto, unfolding(state_word::specs::State::state_in_shape, machine::specs::Shape::in_shape, machine::specs::Shape::room_in_shape, machine::specs::Shape::tables_in_shape))]
+    pub fn in_shape(self) -> bool
+        ensures { result ≡ in_shape (machine_lent self.entry) }
+    {
+        let control = self.control;
+        (1 <= control[MVL])
+            & (control[MVL] <= 64)
+            & (control[VL] <= control[MVL])
+            & (control[CFG] <= 31)
+            & (control[SOURCE] < control[VL])
+            & (control[DESTINATION] < control[VL])
+            & (self.registers[0] == 0)
+            & all_bit0_clear(self.predicate_table)
+    }
+
+    // What a reading call answers, by whether its entry or register exists, its own answer, and what it reads. A
+    // setting call answers the same, and sets where that accepts it.
+    pub fn answer(self, exists: bool, own: Answer, value: u64) -> Answer
+        ensures { let m = machine_lent self.entry in
+            result ≡ (guarded m exists own (done m value)).answer }
+    {
+        let answer = verdict(self.in_shape(), exists, own);
+        if answer.accepts() {
+            return Answer::Done(value);
+        }
+        answer
+    }
 }
 
 // An answer in C's form: its number is returned, its value put where the caller wants it.
@@ -60,50 +79,13 @@ pub fn write_answer(answer: Answer, value: &mut u64) -> u32
     answer.number()
 }
 
-// A reading call, by whether its entry or register exists, its own answer, and what it returns where nothing refuses
-// it. A setting call is the same, and then sets.
-pub fn guarded<'a>(
-    registers: &'a [u64; REGISTERS],
-    control: &'a [u64; CONTROL_WORDS],
-    register_table: &'a [u16; ENTRIES],
-    predicate_table: &'a [u16; ENTRIES],
-    exists: bool,
-    own: Answer,
-    res: u64,
-    value: &mut u64,
-) -> u32
-    ensures { let m = machine_in registers.entry control.entry register_table.entry predicate_table.entry in
-        Replies (guarded m exists own (done m res)) result value.new m }
+// An element of an array, and another value where there is none. It is read in place: a copy of a table would cost more
+// than the call.
+#[tactic(auto, unfolding(crate::specs::Layout::element_at))]
+pub fn element_at<T: Copy>(elements: &[T], index: u32, missing: T) -> T
+    ensures { result ≡ element_at (length elements.now) elements.now index missing }
 {
-    let answer = verdict(
-        in_shape(registers, control, register_table, predicate_table),
-        exists,
-        own,
-    );
-    if answer.accepts() {
-        return write_answer(Answer::Done(res), value);
-    }
-    write_answer(answer, value)
-}
-
-// A register, and 0 where there is none.
-pub fn register_at(registers: &[u64; REGISTERS], index: u32) -> u64
-    ensures { result ≡ register_at registers.now index }
-{
-    if 128 <= index {
-        return 0;
-    }
-    registers[index as usize]
-}
-
-// An entry, and 0 where there is none. It is read in place: a copy of the table would cost more than the call.
-pub fn entry_at(entries: &[u16; ENTRIES], index: u32) -> u16
-    ensures { result ≡ entry_at entries.now index }
-{
-    if 16 <= index {
-        return 0;
-    }
-    entries[index as usize]
+    elements.get(index as usize).copied().unwrap_or(missing)
 }
 
 // MVL, VL, CFG and the offsets: of each the low 32 bits, which are all of a word in range.

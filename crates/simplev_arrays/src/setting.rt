@@ -6,7 +6,7 @@ ghost use Rattle.machine.specs.Update.{with_pc, with_state};
 ghost use Rattle.simplev_arrays.specs.Layout.{machine_of};
 ghost use Rattle.simplev_arrays.specs.Leaves.{Replies};
 
-use crate::{CONTROL_WORDS, PC, guarded, state_of};
+use crate::{CONTROL_WORDS, Lent, PC, state_of, write_answer};
 use answers::Answer;
 use registers::REGISTERS;
 use state_word::State;
@@ -28,28 +28,24 @@ pub fn set_control<'a>(
         let after = machine_of registers.now control.new register_table.now predicate_table.now in
         Replies (guarded m true own (done (with_state (with_pc m pc) state) res)) result value.new after }
 {
-    let answer = guarded(
+    let lent = Lent {
         registers,
         control,
         register_table,
         predicate_table,
-        true,
-        own,
-        res,
-        value,
-    );
-    if answer != 0 {
-        return answer;
+    };
+    let answer = lent.answer(true, own, res);
+    if answer.accepts() {
+        *control = [
+            pc,
+            u64::from(state.mvl),
+            u64::from(state.vl),
+            u64::from(state.cfg),
+            u64::from(state.source),
+            u64::from(state.destination),
+        ];
     }
-    *control = [
-        pc,
-        state.mvl as u64,
-        state.vl as u64,
-        state.cfg as u64,
-        state.source as u64,
-        state.destination as u64,
-    ];
-    answer
+    write_answer(answer, value)
 }
 
 // A call that sets VL to min(n, MVL), and returns the new VL.
@@ -77,7 +73,7 @@ pub fn set_vl<'a>(
         own,
         pc,
         state,
-        state.vl as u64,
+        u64::from(state.vl),
         value,
     )
 }

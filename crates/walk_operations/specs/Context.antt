@@ -44,6 +44,10 @@ abbrev pub ended : ℕ → Position → Ran
 ended bytes p =
     record { answer = Done 0; position = record { pc = (p.pc + bytes) % 2 ^ 64; source = 0; destination = 0 } }
 
+-- an instruction that hasn't moved
+abbrev pub paused : Position → Ran
+paused p = record { answer = Paused; position = p }
+
 -- an instruction that goes on
 abbrev pub onward : Position → ℕ → ℕ → Ran
 onward p source destination = record { answer = Paused; position = at_offsets p source destination }

@@ -1,6 +1,6 @@
 // Where an instruction stands, and how a walk leaves it.
 ghost use Rattle.std.specs.Prelude.{◌≡◌};
-ghost use Rattle.walk_operations.specs.Context.{fault_answer, onward, ended, faulted};
+ghost use Rattle.walk_operations.specs.Context.{at_offsets, fault_answer, paused, onward, ended, faulted};
 
 use answers::Answer;
 
@@ -38,16 +38,32 @@ impl Fault {
 }
 
 impl Position {
-    // An instruction that goes on at a pair of positions.
-    pub fn onward(mut self, source: usize, destination: usize) -> Ran
-        ensures { result ≡ onward self source destination }
+    // The offsets as given.
+    fn at(self, source: usize, destination: usize) -> Position
+        ensures { result ≡ at_offsets self source destination }
     {
-        self.source = source;
-        self.destination = destination;
+        Position {
+            source,
+            destination,
+            ..self
+        }
+    }
+
+    // An instruction that hasn't moved.
+    pub fn paused(self) -> Ran
+        ensures { result ≡ paused self }
+    {
         Ran {
             answer: Answer::Paused,
             position: self,
         }
+    }
+
+    // An instruction that goes on at a pair of positions.
+    pub fn onward(self, source: usize, destination: usize) -> Ran
+        ensures { result ≡ onward self source destination }
+    {
+        self.at(source, destination).paused()
     }
 
     // A memory fault at a pair of positions: the program counter stays where it is.
@@ -56,11 +72,7 @@ impl Position {
     {
         Ran {
             answer: fault.answer(address),
-            position: Position {
-                pc: self.pc,
-                source,
-                destination,
-            },
+            position: self.at(source, destination),
         }
     }
 

@@ -6,7 +6,6 @@ ghost use Rattle.walk_operations.specs.Context.{context, outcome_of, pausing};
 ghost use Rattle.walk_operations.specs.Plan.{Standing, UnitOf, SameWalk};
 
 use crate::position::{Position, Ran};
-use answers::Answer;
 use registers::REGISTERS;
 
 // An instruction whose operands are resolved and whose masks are read.
@@ -51,10 +50,7 @@ pub fn walk<P: Plan>(
         outcome_of result registers.new memory.new ≡ walk pausing (P.unit_of plan) allowance start }
 {
     if allowance == 0 {
-        return Ran {
-            answer: Answer::Paused,
-            position,
-        };
+        return position.paused();
     }
     let mut current = plan.start(position);
     for _done in 0..usize::from(allowance) {
@@ -65,8 +61,5 @@ pub fn walk<P: Plan>(
         }
         current = ran.position;
     }
-    Ran {
-        answer: Answer::Paused,
-        position: current,
-    }
+    current.paused()
 }

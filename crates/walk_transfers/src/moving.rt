@@ -61,7 +61,13 @@ impl Sides {
             outcome_of result registers.new memory.new ≡ walk pausing (move_unit self) allowance start }
     {
         if self.unmasked() {
-            return walk(Unmasked { sides: self }, position, allowance, registers, memory);
+            return walk(
+                Unmasked { sides: self },
+                position,
+                allowance,
+                registers,
+                memory,
+            );
         }
         walk(self, position, allowance, registers, memory)
     }

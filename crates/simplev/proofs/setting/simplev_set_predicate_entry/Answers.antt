@@ -1,16 +1,26 @@
+use mathlib.Core.Path.{refl, sym, ◌∙◌}
 use native.Mathlib.Nat.{div-one}
 use borrow.Author.Tests.{ltb-true}
 use Rattle.machine.specs.Setting.{set_predicate_entry}
-use Rattle.simplev_arrays.proofs.Leaves.{set_accepted, set_exists}
+use Rattle.simplev_arrays.proofs.Leaves.{set_accepted, set_refused, set_exists}
+use Rattle.simplev.proofs.setting.simplev_set_predicate_entry.Goals.{then-accepts, else-accepts}
 use Rattle.simplev.proofs.setting.simplev_set_predicate_entry.Goals as goal
 
 pub put_entry-requires : goal.put_entry-requires
 put_entry-requires c =
-    ltb-true _ _ (set_exists _ _ _ _ c.guarded-answer.ensures c.if-answer-ne0.false)
+    ltb-true _ _
+    (set_exists _ _ _ _ c.answer-answer.ensures (sym c.accepts.ensures ∙ c.if-accepts.true))
 
 pub returns : goal.returns
 unfolding set_predicate_entry
 returns c =
-    let test = c in
-    rw (c.put_entry.ensures, div-one, ← test.valid.ensures)
-    (set_accepted _ _ _ _ _ test.guarded-answer.ensures test.if-answer-ne0.false)
+    let says = c.write_answer.ensures in
+    rw (div-one, ← c.valid.ensures)
+    (elim c.if-accepts.branch [
+      | then-accepts w ↦
+          set_accepted _ _ _ _ _ c.answer-answer.ensures says (sym c.accepts.ensures ∙ w.if-accepts.true)
+          (rw (w.predicate_table-is, w.put_entry.ensures) refl)
+      | else-accepts w ↦
+          rw w.predicate_table-is
+          (set_refused _ _ _ _ _ c.answer-answer.ensures says (sym c.accepts.ensures ∙ w.if-accepts.false))
+    ])

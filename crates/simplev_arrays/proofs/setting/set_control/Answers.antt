@@ -1,10 +1,15 @@
-use Rattle.simplev_arrays.proofs.Leaves.{set_refused, set_accepted}
+use mathlib.Core.Path.{refl, sym, ◌∙◌}
+use Rattle.simplev_arrays.proofs.Leaves.{set_accepted, set_refused}
+use Rattle.simplev_arrays.proofs.setting.set_control.Goals.{then-accepts, else-accepts}
 use Rattle.simplev_arrays.proofs.setting.set_control.Goals as goal
 
 pub returns : goal.returns
 returns c =
-    let test = c in
-    set_accepted _ _ _ _ _ test.guarded-answer.ensures test.if-answer-ne0.false
-
-pub returns-then-answer-ne0 : goal.returns-then-answer-ne0
-returns-then-answer-ne0 c = set_refused _ _ _ _ _ c.guarded-answer.ensures c.if-answer-ne0.true
+    let says = c.write_answer.ensures in
+    elim c.if-accepts.branch [
+      | then-accepts w ↦
+          set_accepted _ _ _ _ _ c.answer-answer.ensures says (sym c.accepts.ensures ∙ w.if-accepts.true)
+          (rw (w.control-is, w.from.ensures, w.from-then-accepts.ensures, w.from-then-accepts-2.ensures, w.from-then-accepts-3.ensures, w.from-then-accepts-4.ensures) refl)
+      | else-accepts w ↦
+          rw w.control-is (set_refused _ _ _ _ _ c.answer-answer.ensures says (sym c.accepts.ensures ∙ w.if-accepts.false))
+    ]

@@ -7,4 +7,4 @@ pub returns : goal.returns
 returns c =
     let made = c in
     replies_same _ _ _ _ _ c.set_control.ensures
-    (λ shaped there. rw (made.with_vl-state.ensures, all_bits made.state_of-old.ensures (parts _ shaped).state))
+    (λ shaped there. rw (c.from.ensures, made.with_vl-state.ensures, all_bits made.state_of-old.ensures (parts _ shaped).state))

@@ -3,7 +3,7 @@ use Rattle.walk_pausable.proofs.Turn.{walk_more, walk_end, walk_none}
 use Rattle.walk_operations.proofs.walk.walk.Goals as goal
 
 pub returns-then-allowance-eq0 : goal.returns-then-allowance-eq0
-returns-then-allowance-eq0 g c = walk_none _ _ _ _ (omega (arith, c.if-allowance-eq0.true))
+returns-then-allowance-eq0 g c = rw c.paused.ensures (walk_none _ _ _ _ (omega (arith, c.if-allowance-eq0.true)))
 
 pub loop-done-init : goal.loop-done-init
 loop-done-init g c =
@@ -25,6 +25,7 @@ loop-done-preserved g c =
 
 pub returns : goal.returns
 returns g c =
-    walk_none _ _ _ _ (omega arith)
+    rw c.paused-2.ensures
+    (walk_none _ _ _ _ (omega arith)
     ∙ c.loop-done.invariant.1
-    ∙ c.start-current.ensures.same _ _ _ (omega (arith, c.if-allowance-eq0.false))
+    ∙ c.start-current.ensures.same _ _ _ (omega (arith, c.if-allowance-eq0.false)))
