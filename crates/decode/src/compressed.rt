@@ -4,7 +4,7 @@ ghost use Rattle.decode.specs.Resolving.{resolved};
 ghost use Rattle.decode.specs.Decoding.{compressed_move};
 
 use crate::decoded::{Decoded, MoveWord};
-use crate::operand::{predicate_by, resolved_by};
+use crate::operand::Lookup;
 use encoding::fields;
 use search::used_range;
 use tables::ENTRIES;
@@ -29,12 +29,16 @@ pub(crate) fn compressed_move<'a>(
     if rs2 == 0 {
         return Decoded::Unknown;
     }
-    let range = used_range(cfg, register_table, predicate_table);
+    let lookup = Lookup {
+        registers: register_table,
+        predicates: predicate_table,
+        range: used_range(cfg, register_table, predicate_table),
+    };
     let rd = fields::rd(word);
-    let mask = predicate_by(predicate_table, range, rd);
-    let destination = resolved_by(register_table, range, rd, mask);
-    let source_mask = predicate_by(predicate_table, range, rs2);
-    let source = resolved_by(register_table, range, rs2, source_mask);
+    let mask = lookup.predicate(rd);
+    let destination = lookup.resolved(rd, mask);
+    let source_mask = lookup.predicate(rs2);
+    let source = lookup.resolved(rs2, source_mask);
     Decoded::Move(MoveWord {
         destination,
         source,

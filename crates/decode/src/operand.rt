@@ -10,16 +10,13 @@ use tables::ENTRIES;
 use tables::enabled::Range;
 use tables::entry::RegisterEntry;
 
-// The word of the predicate entry that holds for a key, 0 where none does.
-pub(crate) fn predicate_by(entries: &[u16; ENTRIES], range: Range, key: u8) -> u16
-    requires { range.end ≤ 16 }
-    ensures { let words = entries.now in
-        result ≡ predicate_by (held_entry Predicate words range key) words }
-{
-    match held_entry(Table::Predicate, entries, range, key) {
-        Some(i) => entries[i],
-        None => 0,
-    }
+// The two tables, and the entries in which a register number is looked for.
+#[derive(Clone, Copy)]
+pub(crate) struct Lookup<'a> {
+    pub registers: &'a [u16; ENTRIES],
+    pub predicates: &'a [u16; ENTRIES],
+    pub range: Range,
+    ghost low: { range.end ≤ 16 },
 }
 
 // What the entry that holds for a register makes of it.
@@ -33,30 +30,37 @@ fn redirected(entry: RegisterEntry) -> Operand
     }
 }
 
-// What a register number names by the register table, with the word of a predicate entry.
-pub(crate) fn resolved_by(
-    entries: &[u16; ENTRIES],
-    range: Range,
-    key: u8,
-    predicate: u16,
-) -> ResolvedOperand
-    requires { range.end ≤ 16 }
-    ensures { let words = entries.now in
-        result ≡ resolved_by (held_entry Register words range key) words key predicate }
-{
-    match held_entry(Table::Register, entries, range, key) {
-        Some(i) => {
-            let entry = RegisterEntry::from(entries[i]);
-            ResolvedOperand {
-                operand: redirected(entry),
-                width: entry.width,
-                predicate,
-            }
+impl<'a> Lookup<'a> {
+    // The word of the predicate entry that holds for a key, 0 where none does.
+    pub(crate) fn predicate(self, key: u8) -> u16
+        ensures { let words = self.entry.predicates.now in
+            result ≡ predicate_by (held_entry Predicate words self.entry.range key) words }
+    {
+        match held_entry(Table::Predicate, self.predicates, self.range, key) {
+            Some(i) => self.predicates[i],
+            None => 0,
         }
-        None => ResolvedOperand {
-            operand: Operand::Plain(key),
-            width: 0,
-            predicate,
-        },
+    }
+
+    // What a register number names, with the word of a predicate entry.
+    pub(crate) fn resolved(self, key: u8, predicate: u16) -> ResolvedOperand
+        ensures { let words = self.entry.registers.now in
+            result ≡ resolved_by (held_entry Register words self.entry.range key) words key predicate }
+    {
+        match held_entry(Table::Register, self.registers, self.range, key) {
+            Some(i) => {
+                let entry = RegisterEntry::from(self.registers[i]);
+                ResolvedOperand {
+                    operand: redirected(entry),
+                    width: entry.width,
+                    predicate,
+                }
+            }
+            None => ResolvedOperand {
+                operand: Operand::Plain(key),
+                width: 0,
+                predicate,
+            },
+        }
     }
 }

@@ -1,5 +1,5 @@
 // The words of 32 bits.
-ghost use Rattle.std.specs.Prelude.{◌≡◌, cond, ◌≤◌};
+ghost use Rattle.std.specs.Prelude.{◌≡◌, cond};
 ghost use Rattle.search.specs.Search.{held_entry};
 ghost use Rattle.search.specs.declared.Table.TheVariants.{Predicate};
 ghost use Rattle.encoding.specs.Listing.{form_of};
@@ -11,14 +11,13 @@ ghost use Rattle.decode.specs.Resolving.{resolved, predicate_by};
 ghost use Rattle.decode.specs.Decoding.{decoded_as, sources_unmasked};
 
 use crate::decoded::{Decoded, LoadWord, OperationWord, ResolvedOperand, SecondOperand, StoreWord};
-use crate::operand::{predicate_by, resolved_by};
+use crate::operand::Lookup;
 use encoding::fields;
 use encoding::form::{Form, form_of};
 use scalar::operator::Operator;
 use scalar::width::Width;
 use search::used_range;
 use tables::ENTRIES;
-use tables::enabled::Range;
 
 // The register number of what is written, or of a store's data.
 fn first_key(form: Form, word: u32) -> u8
@@ -38,15 +37,14 @@ fn is_access(form: Form) -> bool
 }
 
 // The word of the predicate entry of rs1, where its mask counts.
-fn address_predicate(form: Form, entries: &[u16; ENTRIES], range: Range, key: u8) -> u16
-    requires { range.end ≤ 16 }
-    ensures { let words = entries.now in
-        result ≡ cond (is_access form) (predicate_by (held_entry Predicate words range key) words) 0 }
+fn address_predicate<'a>(form: Form, lookup: Lookup<'a>, key: u8) -> u16
+    ensures { let words = lookup.entry.predicates.now in
+        result ≡ cond (is_access form) (predicate_by (held_entry Predicate words lookup.entry.range key) words) 0 }
 {
     if !is_access(form) {
         return 0;
     }
-    predicate_by(entries, range, key)
+    lookup.predicate(key)
 }
 
 fn operation(
@@ -130,15 +128,19 @@ fn decoded_as<'a>(
         result ≡ sources_unmasked (decoded_as operand word form) }
 {
     let rs1 = fields::rs1(word);
-    let range = used_range(cfg, register_table, predicate_table);
-    let address_mask = address_predicate(form, predicate_table, range, rs1);
+    let lookup = Lookup {
+        registers: register_table,
+        predicates: predicate_table,
+        range: used_range(cfg, register_table, predicate_table),
+    };
+    let address_mask = address_predicate(form, lookup, rs1);
     let key = first_key(form, word);
-    let mask = predicate_by(predicate_table, range, key);
-    let one = resolved_by(register_table, range, key, mask);
-    let two = resolved_by(register_table, range, rs1, address_mask);
+    let mask = lookup.predicate(key);
+    let one = lookup.resolved(key, mask);
+    let two = lookup.resolved(rs1, address_mask);
     match form {
         Form::Register(operator) => {
-            let rs2 = resolved_by(register_table, range, fields::rs2(word), 0);
+            let rs2 = lookup.resolved(fields::rs2(word), 0);
             operation(operator, one, two, SecondOperand::Register(rs2))
         }
         Form::Immediate(operator) => immediate(operator, one, two, fields::immediate(word)),
