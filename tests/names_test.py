@@ -23,7 +23,7 @@ VERBS = {
 
 # Contracts that are an expression, by the name with which it begins.
 EXPRESSIONS = {
-    "a", "byte", "funct3", "get_or", "look_up", "low_bits", "min", "n", "of_z", "self", "set", "sign_bit",
+    "a", "byte", "cond", "funct3", "get_or", "look_up", "low_bits", "min", "n", "of_z", "self", "set", "sign_bit",
     "sources_unmasked", "to_z", "with_registers", "words",
 }
 
@@ -38,7 +38,8 @@ OTHERS = {
 }
 
 FUNCTION = re.compile(
-    r"^impl (?P<type>\w+)|\bfn (?P<name>\w+)[^{]*?\n\s+ensures(?: \w+)? \{ (?P<clause>.*?) \}$", re.S | re.M)
+    r"^impl(?:<[^>]*>)? (?P<type>\w+)|\bfn (?P<name>\w+)[^{]*?\n\s+ensures(?: \w+)? \{ (?P<clause>.*?) \}$",
+    re.S | re.M)
 
 
 def words(name):

@@ -35,10 +35,10 @@ pub(crate) fn compressed_move<'a>(
         range: used_range(cfg, register_table, predicate_table),
     };
     let rd = fields::rd(word);
-    let mask = lookup.predicate(rd);
-    let destination = lookup.resolved(rd, mask);
-    let source_mask = lookup.predicate(rs2);
-    let source = lookup.resolved(rs2, source_mask);
+    let mask = lookup.predicate_by(rd);
+    let destination = lookup.resolved_by(rd, mask);
+    let source_mask = lookup.predicate_by(rs2);
+    let source = lookup.resolved_by(rs2, source_mask);
     Decoded::Move(MoveWord {
         destination,
         source,

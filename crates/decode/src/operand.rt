@@ -32,7 +32,7 @@ fn redirected(entry: RegisterEntry) -> Operand
 
 impl<'a> Lookup<'a> {
     // The word of the predicate entry that holds for a key, 0 where none does.
-    pub(crate) fn predicate(self, key: u8) -> u16
+    pub(crate) fn predicate_by(self, key: u8) -> u16
         ensures { let words = self.entry.predicates.now in
             result ≡ predicate_by (held_entry Predicate words self.entry.range key) words }
     {
@@ -43,7 +43,7 @@ impl<'a> Lookup<'a> {
     }
 
     // What a register number names, with the word of a predicate entry.
-    pub(crate) fn resolved(self, key: u8, predicate: u16) -> ResolvedOperand
+    pub(crate) fn resolved_by(self, key: u8, predicate: u16) -> ResolvedOperand
         ensures { let words = self.entry.registers.now in
             result ≡ resolved_by (held_entry Register words self.entry.range key) words key predicate }
     {

@@ -44,7 +44,7 @@ fn address_predicate<'a>(form: Form, lookup: Lookup<'a>, key: u8) -> u16
     if !is_access(form) {
         return 0;
     }
-    lookup.predicate(key)
+    lookup.predicate_by(key)
 }
 
 fn operation(
@@ -135,12 +135,12 @@ fn decoded_as<'a>(
     };
     let address_mask = address_predicate(form, lookup, rs1);
     let key = first_key(form, word);
-    let mask = lookup.predicate(key);
-    let one = lookup.resolved(key, mask);
-    let two = lookup.resolved(rs1, address_mask);
+    let mask = lookup.predicate_by(key);
+    let one = lookup.resolved_by(key, mask);
+    let two = lookup.resolved_by(rs1, address_mask);
     match form {
         Form::Register(operator) => {
-            let rs2 = lookup.resolved(fields::rs2(word), 0);
+            let rs2 = lookup.resolved_by(fields::rs2(word), 0);
             operation(operator, one, two, SecondOperand::Register(rs2))
         }
         Form::Immediate(operator) => immediate(operator, one, two, fields::immediate(word)),

@@ -2,7 +2,8 @@
 ghost use Rattle.std.specs.Prelude.{◌≡◌};
 ghost use Rattle.registers.specs.Written.{written};
 ghost use Rattle.machine.specs.Update.{with_registers};
-ghost use Rattle.machine.specs.Setting.{vl_set, set_vl, set_vl_immediate, set_state, set_mvl, set_cfg, set_pc, set_state_word};
+ghost use Rattle.machine.specs.Setting.{vl_set, set_vl, set_vl_immediate};
+ghost use Rattle.machine.specs.Setting.{set_state, set_mvl, set_cfg, set_pc, set_state_word};
 ghost use Rattle.machine.specs.Setting.{set_register_entry, set_predicate_entry, set_register};
 
 use crate::{Machine, Reply};

@@ -2,6 +2,7 @@
 use Prim.Native.Nat.{ℕ}
 use mathlib.Core.Path.{◌≡◌, refl, sym, ◌∙◌, ap}
 use mathlib.Core.Bool.{Bool, true, false, cond, true≢false}
+use borrow.Author.Tests.{eqb-true, eqb-false}
 use Rattle.answers.specs.declared.Answer.{Answer}
 use Rattle.answers.specs.Answer.{accepts}
 use Rattle.answers.specs.Verdict.{verdict}
@@ -17,37 +18,59 @@ pub leaves :
     {a : Answer} {s : System} {o : Outcome Answer System} {n v : ℕ} → outcome a s ≡ o → Says a n v → Leaves o n v s
 leaves e said = rw (← e) (record { says = said; state = refl })
 
--- A setting call answers as the reading call of what it returns, and leaves the machine as it was where it is refused,
--- and else what it sets.
+-- A setting call that was guarded leaves the machine as it was where it is refused, and else what it sets.
+module _
+    (m after : Machine) (exists : Bool) (own : Answer) (result : ℕ) {n v : ℕ}
+    (guard : Replies (guarded m exists own (done m result)) n v m) where
+  pub set_refused : (n ≡ 0 → ⊥) → Replies (guarded m exists own (done after result)) n v m
+  set_refused h = by _ (accepts (verdict (in_shape m) exists own)) guard
+    where
+      by :
+          (a : Answer) (t : Bool) → Replies (cond t (done m result) (refuse m a)) n v m →
+          Replies (cond t (done after result) (refuse m a)) n v m
+      by a true r = absurd (h r.says.number)
+      by a false r = r
+
+  pub set_accepted : n ≡ 0 → Replies (guarded m exists own (done after result)) n v after
+  unfolding accepts
+  set_accepted z = by _ (accepts (verdict (in_shape m) exists own)) refl guard
+    where
+      by :
+          (a : Answer) (t : Bool) → accepts a ≡ t → Replies (cond t (done m result) (refuse m a)) n v m →
+          Replies (cond t (done after result) (refuse m a)) n v after
+      by a true e r = record { says = r.says; machine = refl }
+      by a false e r = absurd (eqb-false _ _ e (sym r.says.number ∙ z))
+
+-- a reading call leaves the machine
+pub read_replies :
+    (m : Machine) (exists : Bool) (own : Answer) (result : ℕ) {a : Answer} →
+    a ≡ (guarded m exists own (done m result)).answer → {n v : ℕ} → Says a n v →
+    Replies (guarded m exists own (done m result)) n v m
+read_replies m exists own result {a} answered {n} {v} says = by (accepts (verdict (in_shape m) exists own)) answered
+  where
+    by :
+        (t : Bool) → a ≡ (cond t (done m result) (refuse m (verdict (in_shape m) exists own))).answer →
+        Replies (cond t (done m result) (refuse m (verdict (in_shape m) exists own))) n v m
+    by true f = record { says = rw f at says; machine = refl }
+    by false f = record { says = rw f at says; machine = refl }
+
+-- By whether its answer accepts.
 module _
     (m after : Machine) (exists : Bool) (own : Answer) (result : ℕ) {a : Answer}
     (answered : a ≡ (guarded m exists own (done m result)).answer) {n v : ℕ} (says : Says a n v) where
-  abbrev own_verdict : Answer
-  own_verdict = verdict (in_shape m) exists own
+  pub answer_refused : accepts a ≡ false → Replies (guarded m exists own (done after result)) n v m
+  unfolding accepts
+  answer_refused h =
+      set_refused m after exists own result (read_replies m exists own result answered says)
+      (λ z. eqb-false _ _ h (sym says.number ∙ z))
 
-  abbrev answer_by : Bool → Answer
-  answer_by t = (cond t (done m result) (refuse m own_verdict)).answer
-
-  pub set_accepted :
+  pub answer_accepted :
       {left : Machine} → accepts a ≡ true → left ≡ after → Replies (guarded m exists own (done after result)) n v left
   unfolding accepts
-  set_accepted {left} h same = by (accepts own_verdict) refl answered
-    where
-      by :
-          (t : Bool) → accepts own_verdict ≡ t → a ≡ answer_by t →
-          Replies (cond t (done after result) (refuse m own_verdict)) n v left
-      by true e f = record { says = rw f at says; machine = same }
-      by false e f = absurd (true≢false (sym h ∙ rw f e))
-
-  pub set_refused : accepts a ≡ false → Replies (guarded m exists own (done after result)) n v m
-  unfolding accepts
-  set_refused h = by (accepts own_verdict) refl answered
-    where
-      by :
-          (t : Bool) → accepts own_verdict ≡ t → a ≡ answer_by t →
-          Replies (cond t (done after result) (refuse m own_verdict)) n v m
-      by true e f = absurd (true≢false (sym (rw f refl) ∙ h))
-      by false e f = record { says = rw f at says; machine = refl }
+  answer_accepted h same =
+      rw same
+      (set_accepted m after exists own result (read_replies m exists own result answered says)
+      (says.number ∙ eqb-true _ _ h))
 
 -- what was set exists
 pub set_exists :
@@ -62,19 +85,6 @@ set_exists m exists own result {a} answered h = by (in_shape m) exists answered
     by s true f = refl
     by true false f = absurd (true≢false (sym h ∙ rw f refl))
     by false false f = absurd (true≢false (sym h ∙ rw f refl))
-
--- a reading call leaves the machine
-pub read_replies :
-    (m : Machine) (exists : Bool) (own : Answer) (result : ℕ) {a : Answer} →
-    a ≡ (guarded m exists own (done m result)).answer → {n v : ℕ} → Says a n v →
-    Replies (guarded m exists own (done m result)) n v m
-read_replies m exists own result {a} answered {n} {v} says = by (accepts (verdict (in_shape m) exists own)) answered
-  where
-    by :
-        (t : Bool) → a ≡ (cond t (done m result) (refuse m (verdict (in_shape m) exists own))).answer →
-        Replies (cond t (done m result) (refuse m (verdict (in_shape m) exists own))) n v m
-    by true f = record { says = rw f at says; machine = refl }
-    by false f = record { says = rw f at says; machine = refl }
 
 -- What a call replies matters only on a machine in shape, at an entry or register that exists.
 module _ (m : Machine) (exists : Bool) (own : Answer) (a b : Reply) where

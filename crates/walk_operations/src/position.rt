@@ -39,7 +39,7 @@ impl Fault {
 
 impl Position {
     // The offsets as given.
-    fn at(self, source: usize, destination: usize) -> Position
+    fn at_offsets(self, source: usize, destination: usize) -> Position
         ensures { result ≡ at_offsets self source destination }
     {
         Position {
@@ -63,7 +63,7 @@ impl Position {
     pub fn onward(self, source: usize, destination: usize) -> Ran
         ensures { result ≡ onward self source destination }
     {
-        self.at(source, destination).paused()
+        self.at_offsets(source, destination).paused()
     }
 
     // A memory fault at a pair of positions: the program counter stays where it is.
@@ -72,7 +72,7 @@ impl Position {
     {
         Ran {
             answer: fault.answer(address),
-            position: self.at(source, destination),
+            position: self.at_offsets(source, destination),
         }
     }
 

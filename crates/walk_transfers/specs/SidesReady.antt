@@ -31,3 +31,10 @@ Begins s p = SidesReady s × Within s.vl p
 
 abbrev pub Standing : Sides → Position → Type 0
 Standing s p = SidesReady s × Within s.vl p × Stands s p
+
+-- a move has registers on both
+abbrev pub MoveBegins : Sides → Position → Type 0
+MoveBegins s p = Begins s p × OfRegisters s.source × OfRegisters s.destination
+
+abbrev pub MoveStanding : Sides → Position → Type 0
+MoveStanding s p = Standing s p × OfRegisters s.source × OfRegisters s.destination

@@ -3,7 +3,7 @@ ghost use Rattle.std.specs.Prelude.{◌&&◌, ◌≡◌, ◌-◌, ◌^◌, eqb};
 ghost use Rattle.walk_pausable.specs.Walk.{walk};
 ghost use Rattle.walk_operations.specs.Context.{WithAnyMemory, context, outcome_of, pausing};
 ghost use Rattle.walk_transfers.specs.Moving.{move_unit};
-ghost use Rattle.walk_transfers.specs.SidesReady.{OfRegisters, Begins, Standing};
+ghost use Rattle.walk_transfers.specs.SidesReady.{OfRegisters, Begins, Standing, MoveBegins, MoveStanding};
 
 use crate::sides::Sides;
 use registers::REGISTERS;
@@ -74,9 +74,9 @@ impl Sides {
 }
 
 impl Plan for Sides {
-    ghost begins = { λ s position. Begins s position × OfRegisters s.source × OfRegisters s.destination };
+    ghost begins = { MoveBegins };
 
-    ghost stands = { λ s position. Standing s position × OfRegisters s.source × OfRegisters s.destination };
+    ghost stands = { MoveStanding };
 
     ghost unit_of = { move_unit };
 
@@ -103,9 +103,9 @@ struct Unmasked {
 }
 
 impl Plan for Unmasked {
-    ghost begins = { λ u position. Begins u.sides position × OfRegisters u.sides.source × OfRegisters u.sides.destination };
+    ghost begins = { λ u. MoveBegins u.sides };
 
-    ghost stands = { λ u position. Standing u.sides position × OfRegisters u.sides.source × OfRegisters u.sides.destination };
+    ghost stands = { λ u. MoveStanding u.sides };
 
     ghost unit_of = { λ u. move_unit u.sides };
 

@@ -32,8 +32,8 @@ returns c =
     let a = b in
     let same = r.used_range.ensures in
     rw (
-      masked same _ c.resolved-source.ensures c.predicate-source_mask.ensures,
-      masked same _ c.resolved-destination.ensures c.predicate-mask.ensures,
+      masked same _ c.resolved_by-source.ensures c.predicate_by-source_mask.ensures,
+      masked same _ c.resolved_by-destination.ensures c.predicate_by-mask.ensures,
       c.rd-rd.ensures,
       div-one,
       eq-eqb _ _ a.if-word-ne2.false,

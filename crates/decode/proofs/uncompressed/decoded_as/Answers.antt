@@ -6,24 +6,24 @@ use Rattle.decode.specs.Decoding.{decoded_as}
 use Rattle.decode.proofs.Words.{store_is}
 use Rattle.decode.proofs.Operands.{without_mask}
 use Rattle.decode.proofs.Found.{Found, found, as_form, operation_made, load_made}
-use Rattle.decode.proofs.uncompressed.decoded_as.Goals.{After-resolved-two}
+use Rattle.decode.proofs.uncompressed.decoded_as.Goals.{After-resolved_by-two}
 use Rattle.decode.proofs.uncompressed.decoded_as.Goals as goal
 
 -- the operands as they were found
 searched :
-    (c : After-resolved-two) →
+    (c : After-resolved_by-two) →
     Found (resolved c.args.cfg c.args.register_table.now c.args.predicate_table.now) c.args.word c.args.form
-    c.resolved-one.result c.resolved-two.result
+    c.resolved_by-one.result c.resolved_by-two.result
 searched c =
     found c.used_range.ensures c.rs1-rs1.ensures c.address_predicate-address_mask.ensures
-    c.first_key-key.ensures c.predicate-mask.ensures c.resolved-one.ensures c.resolved-two.ensures
+    c.first_key-key.ensures c.predicate_by-mask.ensures c.resolved_by-one.ensures c.resolved_by-two.ensures
 
 pub returns-in-Register : goal.returns-in-Register
 unfolding decoded_as
 returns-in-Register c =
     let operands = searched c.before.before.before.before.before in
     let operand = resolved c.args.cfg c.args.register_table.now c.args.predicate_table.now in
-    let plain = without_mask c.used_range.ensures _ c.resolved-rs2.ensures refl in
+    let plain = without_mask c.used_range.ensures _ c.resolved_by-rs2.ensures refl in
     operation_made operands _ c.in-Register.is _ (Register _) refl refl refl
     (ap Register (plain ∙ ap (λ k. unmasked (operand k)) c.rs2.ensures)) c.operation.ensures
 

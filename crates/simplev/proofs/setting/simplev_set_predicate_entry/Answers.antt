@@ -2,7 +2,7 @@ use mathlib.Core.Path.{refl, sym, ◌∙◌}
 use native.Mathlib.Nat.{div-one}
 use borrow.Author.Tests.{ltb-true}
 use Rattle.machine.specs.Setting.{set_predicate_entry}
-use Rattle.simplev_arrays.proofs.Leaves.{set_accepted, set_refused, set_exists}
+use Rattle.simplev_arrays.proofs.Leaves.{answer_accepted, answer_refused, set_exists}
 use Rattle.simplev.proofs.setting.simplev_set_predicate_entry.Goals.{then-accepts, else-accepts}
 use Rattle.simplev.proofs.setting.simplev_set_predicate_entry.Goals as goal
 
@@ -18,9 +18,9 @@ returns c =
     rw (div-one, ← c.valid.ensures)
     (elim c.if-accepts.branch [
       | then-accepts w ↦
-          set_accepted _ _ _ _ _ c.answer-answer.ensures says (sym c.accepts.ensures ∙ w.if-accepts.true)
+          answer_accepted _ _ _ _ _ c.answer-answer.ensures says (sym c.accepts.ensures ∙ w.if-accepts.true)
           (rw (w.predicate_table-is, w.put_entry.ensures) refl)
       | else-accepts w ↦
           rw w.predicate_table-is
-          (set_refused _ _ _ _ _ c.answer-answer.ensures says (sym c.accepts.ensures ∙ w.if-accepts.false))
+          (answer_refused _ _ _ _ _ c.answer-answer.ensures says (sym c.accepts.ensures ∙ w.if-accepts.false))
     ])
