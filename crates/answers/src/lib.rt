@@ -20,6 +20,7 @@ pub enum Answer {
 }
 
 impl Answer {
+    // By name, not by `From`: an answer has two numbers.
     pub fn number(self) -> u32
         ensures { result ≡ number_of self }
     {

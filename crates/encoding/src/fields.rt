@@ -1,4 +1,5 @@
-// The fields of a word.
+// The fields of a word, by the manual's names. Each is one expression: a function of the place and the width of a field
+// would take both from each of these.
 ghost use Rattle.std.specs.Prelude.{◌≡◌, ◌<◌, ◌^◌};
 ghost use Rattle.encoding.specs.Fields as field;
 

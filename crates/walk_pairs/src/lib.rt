@@ -68,7 +68,8 @@ impl Side {
         requires { (i < vl) × (vl ≤ 64) }
         ensures { result ≡ first_on self.mask (vl - (i + 1)) (i + 1) }
     {
-        // Shifted on with the position: five instructions a turn on RV64, and six with `is_on`.
+        // Shifted on with the position: five instructions a turn on RV64, and six with `is_on`. By trailing_zeros a skip
+        // has 18 where RV64 can't count zeros, also one over a single position.
         let mut rest = (self.mask.on >> i) / 2;
         let mut k = i + 1;
         while rest % 2 == 0 {
@@ -92,6 +93,7 @@ pub fn find_pair(source: Side, destination: Side, vl: usize, i0: usize, j0: usiz
     let mut i = i0;
     let mut j = j0;
     let mut zeroed = false;
+    // A labelled loop, as the requirements want the search for a pair.
     'pair: loop {
         let source_on = source.mask.is_on(i);
         if destination.mask.is_on(j) {
