@@ -83,7 +83,8 @@ none_left [] = λ e. refl
 none_left (b ∷ bs) = by (eqb b 32) refl (none_left bs)
   where
     by :
-        (t : Bool) → eqb b 32 ≡ t → Nothing (drop (first_letter bs) bs) → Nothing (drop (first_letter (b ∷ bs)) (b ∷ bs))
+        (t : Bool) → eqb b 32 ≡ t → Nothing (drop (first_letter bs) bs) →
+        Nothing (drop (first_letter (b ∷ bs)) (b ∷ bs))
     by true e rest = subst (λ n. Nothing (drop n (b ∷ bs))) (sym (past_space b bs e)) rest
     by false e rest =
         subst (λ n. Nothing (drop n (b ∷ bs))) (sym (at_letter b bs e))

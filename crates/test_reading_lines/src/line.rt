@@ -3,7 +3,7 @@ ghost use Rattle.test_reading_lines.specs.Words.{words_of};
 ghost use Rattle.test_reading_lines.specs.Line.{expected_of, call_line, line_of};
 
 use crate::call::{Call, Limits};
-use crate::words::Words;
+use crate::words::{Words, words_of};
 use std::fmt;
 
 // The last number in the table of answers.
@@ -45,7 +45,7 @@ pub enum Line {
 // `= answer value`, or nothing, which is `= 0 0`; and then the line's end.
 #[tactic(auto, unfolding(crate::specs::Line::expected_of))]
 fn expected_of(words: &mut Words) -> Option<Answered>
-    ensures { result ≡ expected_of (words_of words.old.rest.now) }
+    ensures { result ≡ expected_of words.old }
 {
     match words.next() {
         [] => Some(Answered {
@@ -67,7 +67,7 @@ fn expected_of(words: &mut Words) -> Option<Answered>
 fn call_line(line: &[u8]) -> Option<CallLine>
     ensures { result ≡ call_line (words_of line.now) }
 {
-    let mut words = Words { rest: line };
+    let mut words = words_of(line);
     let call = Call::of(words.next())?;
     let Limits(first, second) = call.limits();
     let first = words.argument_of(first)?;

@@ -19,7 +19,9 @@ pub one_digit :
     (base : ℕ) (digits : List ℕ) (n i : ℕ) (digit : Option ℕ) → i < length digits →
     digit ≡ digit_of (get_or digits i 0) →
     digits_after base n (drop i digits)
-    ≡ option_and_then (λ d. cond (ltb d base && ltb n (2 ^ 60)) (digits_after base (n * base + d) (drop (i + 1) digits)) None) digit
+    ≡ option_and_then
+    (λ d. cond (ltb d base && ltb n (2 ^ 60)) (digits_after base (n * base + d) (drop (i + 1) digits)) None)
+    digit
 unfolding digits_after
 one_digit base digits n i digit h e = rw (drop-cons digits i 0 h, e, add-one)
 

@@ -4,9 +4,7 @@ use Rattle.test_reading_lines.proofs.NameLaws.{unnamed}
 use Rattle.test_reading_lines.proofs.call.Field.of.Goals as goal
 
 pub returns-in_default-51 : goal.returns-in_default-51
-returns-in_default-51 c =
-    unnamed fields c.args.name.now (λ e. omega arith, (λ e. omega arith, (λ e. omega arith, (λ e. omega arith, (λ e. omega arith, (λ e. omega arith, (λ e. omega arith, tt)))))))
+returns-in_default-51 c = unnamed fields c.args.name.now (grind arith)
 
 pub returns-in_default-69 : goal.returns-in_default-69
-returns-in_default-69 c =
-    unnamed fields c.args.name.now (λ e. omega arith, (λ e. omega arith, (λ e. omega arith, (λ e. omega arith, (λ e. omega arith, (λ e. omega arith, (λ e. omega arith, tt)))))))
+returns-in_default-69 c = unnamed fields c.args.name.now (grind arith)

@@ -4,5 +4,4 @@ use Rattle.test_reading_lines.proofs.NameLaws.{unnamed}
 use Rattle.test_reading_lines.proofs.call.Setting.of.Goals as goal
 
 pub returns-in_default-37 : goal.returns-in_default-37
-returns-in_default-37 c =
-    unnamed settings c.args.name.now (λ e. omega arith, (λ e. omega arith, (λ e. omega arith, (λ e. omega arith, (λ e. omega arith, (λ e. omega arith, (λ e. omega arith, (λ e. omega arith, (λ e. omega arith, tt)))))))))
+returns-in_default-37 c = unnamed settings c.args.name.now (grind arith)
