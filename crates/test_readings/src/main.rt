@@ -62,6 +62,7 @@ fn run_file(rt: &(impl Files + Print), path: &[u8], tally: Tally) -> Tally {
     text::run_text(rt, text, tally.with_file(whole))
 }
 
+// With no heap each argument is read into a buffer.
 fn main(rt: HostRuntime) {
     let mut tally = Tally::new();
     for i in 1..usize::MAX {

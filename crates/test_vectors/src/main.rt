@@ -47,7 +47,7 @@ fn check_argument(rt: &(impl Files + Print + Eprint), path: &[u8], tally: &mut T
     }
 }
 
-// The first argument has to be there.
+// The first argument has to be there. With no heap each is read into a buffer.
 fn main(rt: HostRuntime) {
     let mut tally = Tally::default();
     for i in 1..usize::MAX {
