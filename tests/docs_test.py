@@ -22,6 +22,7 @@ WIDTH = 120
 
 # Words in backticks that nothing here defines. Each has to be used in some document.
 FOREIGN = {
+    "arrayvec": "a library of the toolchain",
     "std": "a library of the toolchain",
     "get_or": "a definition of its library",
     "requires": "a word of the language", "ensures": "the same", "pub": "the same", "const": "the same",

@@ -7,16 +7,17 @@ use std::fmt::{Display, Formatter};
 use std::io::{Cursor, Write};
 use std::{fmt, io, str};
 
-// Where the words of an error end. What follows them is its number.
+// What stands between the words of an error and its number.
+const NUMBER: &[u8] = b" (os error ";
+
+// Where the words of an error end.
 fn words_end(text: &[u8]) -> usize
     ensures { result ≤ length text.now }
 {
-    for i in 0..text.len() {
-        if text[i..].starts_with(b" (os error ") {
-            return i;
-        }
-    }
-    text.len()
+    let number = text
+        .windows(NUMBER.len())
+        .position(|window| window == NUMBER);
+    number.unwrap_or(text.len())
 }
 
 // An error of input or output, displayed by its words alone.

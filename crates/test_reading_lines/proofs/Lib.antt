@@ -1,4 +1,2 @@
-pub mod DigitLaws
-pub mod LineLaws
-pub mod PlaceLaws
+pub mod NameLaws
 pub mod WordLaws

@@ -1,107 +1,134 @@
--- The words of a line, byte by byte.
-use Prim.Native.Nat.{ℕ, suc, ◌+◌, ◌-◌, ◌≤◌, ◌<◌}
-use mathlib.Core.Path.{◌≡◌, refl, ◌∙◌}
-use mathlib.Core.Bool.{Bool, true, false}
+-- The words of a line, one after another.
+use Prim.Native.Nat.{ℕ, suc, ◌≤◌}
+use mathlib.Core.Path.{◌≡◌, refl, ap, subst, ◌∙◌, sym}
+use mathlib.Core.Bool.{Bool, true, false, not}
 use mathlib.Core.List.{List, [], ◌∷◌, ◌++◌}
-use lib.Dec.{ltb}
-use lib.ListN.{length, get_or, drop, length-drop, drop_of_length-le}
-use lib.Seq.{drop-cons, take-suc, get_or-drop, length-take-le}
-use native.Mathlib.Numerals.{add-one}
-use native.Mathlib.Omega.{arith}
-use borrow.Author.Tests.{eq-eqb, ne_eqb, ltb-true, ltb-false}
-use Rattle.test_reading_lines.specs.declared.words.Word.{Word}
-use Rattle.test_reading_lines.specs.Words.{part, before, words_after, words_of, word_at, FirstWord}
+use lib.Dec.{eqb, ltb}
+use lib.ListN.{length, drop, take}
+use Rattle.std.specs.Option.{unwrap_or}
+use Rattle.std.specs.List.{position, position_or_len}
+use Rattle.std.proofs.lemmas.List.{append-nil}
+use Rattle.std.proofs.lemmas.List.Sums.{prefix_len-le-length}
+use borrow.Author.Tests.{ltb-false}
+use Rattle.std.proofs.Common.{append_assoc, arith}
+use Rattle.test_reading_lines.specs.Words.{before, words_after, words_of, word_at}
 
-module _ (line : List ℕ) (i : ℕ) where
-  pub spaced : i < length line → get_or line i 0 ≡ 32 → words_of (drop i line) ≡ words_of (drop (i + 1) line)
+abbrev first_letter : List ℕ → ℕ
+first_letter line = position_or_len (λ b. not (eqb b 32)) line
+
+abbrev first_space : List ℕ → ℕ
+first_space line = position_or_len (λ b. eqb b 32) line
+
+module _ (b : ℕ) (bs : List ℕ) where
+  past_space : eqb b 32 ≡ true → first_letter (b ∷ bs) ≡ suc (first_letter bs)
+  past_space e = rw e (omega arith)
+
+  at_letter : eqb b 32 ≡ false → first_letter (b ∷ bs) ≡ 0
+  at_letter e = rw e refl
+
+  past_letter : eqb b 32 ≡ false → first_space (b ∷ bs) ≡ suc (first_space bs)
+  past_letter e = rw e (omega arith)
+
+  at_space : eqb b 32 ≡ true → first_space (b ∷ bs) ≡ 0
+  at_space e = rw e refl
+
+  -- the first byte moves into the word, or ends it
+  begin : (begun : List ℕ) → eqb b 32 ≡ false → words_after begun (b ∷ bs) ≡ words_after (begun ++ b ∷ []) bs
   unfolding words_after
-  spaced h e = rw (drop-cons line i 0 h, eq-eqb (get_or line i 0) 32 e, add-one)
+  begin begun e = rw e refl
 
-  pub lettered :
-      (begun : List ℕ) → i < length line → (get_or line i 0 ≡ 32 → ⊥) →
-      words_after begun (drop i line) ≡ words_after (begun ++ get_or line i 0 ∷ []) (drop (i + 1) line)
+  end : (begun : List ℕ) → eqb b 32 ≡ true → words_after begun (b ∷ bs) ≡ before begun (words_of bs)
   unfolding words_after
-  lettered begun h n = rw (drop-cons line i 0 h, ne_eqb (get_or line i 0) 32 n, add-one)
+  end begun e = rw e refl
 
-  pub at_space :
-      (begun : List ℕ) → i < length line → get_or line i 0 ≡ 32 →
-      words_after begun (drop i line) ≡ before begun (words_of (drop i line))
-  unfolding words_after
-  at_space begun h e = rw (drop-cons line i 0 h, eq-eqb (get_or line i 0) 32 e)
+skipped : (line : List ℕ) → words_of (drop (first_letter line) line) ≡ words_of line
+skipped [] = refl
+skipped (b ∷ bs) = by (eqb b 32) refl (skipped bs)
+  where
+    by :
+        (t : Bool) → eqb b 32 ≡ t → words_of (drop (first_letter bs) bs) ≡ words_of bs →
+        words_of (drop (first_letter (b ∷ bs)) (b ∷ bs)) ≡ words_of (b ∷ bs)
+    by true e rest = ap (λ n. words_of (drop n (b ∷ bs))) (past_space b bs e) ∙ rest ∙ sym (end b bs [] e)
+    by false e rest = ap (λ n. words_of (drop n (b ∷ bs))) (at_letter b bs e)
 
-  pub at_end :
-      (begun : List ℕ) → length line ≤ i → words_after begun (drop i line) ≡ before begun (words_of (drop i line))
-  unfolding words_after
-  at_end begun h = rw (drop_of_length-le line h)
+-- a word that has begun, and the words after it, where n bytes more belong to it
+abbrev split : List ℕ → List ℕ → ℕ → List (List ℕ)
+split begun line n = before (begun ++ take n line) (words_of (drop n line))
 
-  pub none_remaining : length line ≤ i → words_of (drop i line) ≡ []
-  unfolding words_after
-  none_remaining h = rw (drop_of_length-le line h)
+at_end : (begun : List ℕ) → words_after begun [] ≡ split begun [] 0
+unfolding words_after
+at_end begun = rw append-nil refl
 
-  pub longer_part :
-      (from : ℕ) → from ≤ i → i < length line → part from (i + 1) line ≡ part from i line ++ get_or line i 0 ∷ []
-  longer_part from l h =
-      let more : i + 1 - from ≡ suc (i - from) = omega arith in
-      let here : from + (i - from) ≡ i = omega arith in
-      let size = length-drop from line in
-      rw (more, take-suc (drop from line) (i - from) 0 (omega arith), get_or-drop from line (i - from) 0, here)
+before_space : (begun line : List ℕ) → words_after begun line ≡ split begun line (first_space line)
+before_space begun [] = at_end begun
+before_space begun (b ∷ bs) = by (eqb b 32) refl (before_space (begun ++ b ∷ []) bs)
+  where
+    by :
+        (t : Bool) → eqb b 32 ≡ t →
+        words_after (begun ++ b ∷ []) bs ≡ split (begun ++ b ∷ []) bs (first_space bs) →
+        words_after begun (b ∷ bs) ≡ split begun (b ∷ bs) (first_space (b ∷ bs))
+    by true e rest =
+        let here : before begun (words_of bs) ≡ split begun (b ∷ bs) 0 = rw (append-nil, end b bs [] e) refl in
+        end b bs begun e ∙ here ∙ sym (ap (split begun (b ∷ bs)) (at_space b bs e))
+    by false e rest =
+        let on = rw (append_assoc begun (b ∷ []) (take (first_space bs) bs)) at rest in
+        begin b bs begun e ∙ on ∙ sym (ap (split begun (b ∷ bs)) (past_letter b bs e))
 
-pub part_length : (from to : ℕ) (line : List ℕ) → to ≤ length line → length (part from to line) ≡ to - from
-part_length from to line h =
-    let size = length-drop from line in
-    length-take-le (to - from) (drop from line) (omega arith)
+-- after the spaces, nothing before a space is nothing at all
+abbrev Nothing : List ℕ → Type 0
+Nothing text = take (first_space text) text ≡ [] → text ≡ []
+
+none_left : (line : List ℕ) → Nothing (drop (first_letter line) line)
+none_left [] = λ e. refl
+none_left (b ∷ bs) = by (eqb b 32) refl (none_left bs)
+  where
+    by :
+        (t : Bool) → eqb b 32 ≡ t → Nothing (drop (first_letter bs) bs) →
+        Nothing (drop (first_letter (b ∷ bs)) (b ∷ bs))
+    by true e rest = subst (λ n. Nothing (drop n (b ∷ bs))) (sym (past_space b bs e)) rest
+    by false e rest =
+        subst (λ n. Nothing (drop n (b ∷ bs))) (sym (at_letter b bs e))
+        (λ h. absurd (let g = subst (λ n. take n (b ∷ bs) ≡ []) (past_letter b bs e) h in omega (arith, ap length g)))
+
+-- where a test first passes, or the length
+pub place : (p : ℕ → Bool) (line : List ℕ) → unwrap_or (position p line) (length line) ≡ position_or_len p line
+place p line = by (ltb (position_or_len p line) (length line)) refl
+  where
+    by :
+        (t : Bool) → ltb (position_or_len p line) (length line) ≡ t →
+        unwrap_or (position p line) (length line) ≡ position_or_len p line
+    by true e = rw e
+    by false e =
+        let low : position_or_len p line ≤ length line = prefix_len-le-length (λ b. not (p b)) line in
+        let high : length line ≤ position_or_len p line = ltb-false _ _ e in
+        rw e (omega arith)
 
 -- the first of some words, and the others
 first_of :
-    (word : List ℕ) (words rest : List (List ℕ)) → words ≡ before word rest → (length word ≡ 0 → rest ≡ []) →
+    (word : List ℕ) (words rest : List (List ℕ)) → words ≡ before word rest → (word ≡ [] → rest ≡ []) →
     (word ≡ word_at 0 words) × (rest ≡ drop 1 words)
 first_of [] words rest e none = let n = none refl in (rw (e, n), rw (e, n))
 first_of (b ∷ bs) words rest e none = (rw e, rw e)
 
--- A word that begins with no space and ends before one, or at the line's end.
-module _ (line : List ℕ) (from : ℕ) (r : Word) (low : from ≤ r.start) (middle : r.start ≤ r.end)
-    (high : r.end ≤ length line) (begins : r.start < length line → get_or line r.start 0 ≡ 32 → ⊥)
-    (ends : r.end < length line → get_or line r.end 0 ≡ 32)
-  where
-    empty_last : r.end ≤ r.start → length line ≤ r.start
-    empty_last h = by (ltb r.start (length line)) refl
-      where
-        by : (b : Bool) → ltb r.start (length line) ≡ b → length line ≤ r.start
-        by true e =
-            let l : r.start < length line = ltb-true _ _ e in
-            let here : r.end ≡ r.start = omega arith in
-            absurd (begins l (rw here at (ends (omega arith))))
-        by false e = ltb-false _ _ e
+found :
+    (line : List ℕ) →
+    let text = drop (first_letter line) line in
+    (take (first_space text) text ≡ word_at 0 (words_of line))
+    × (words_of (drop (first_space text) text) ≡ drop 1 (words_of line))
+unfolding words_after
+found line =
+    let nothing : words_of [] ≡ [] = refl in
+    let text = drop (first_letter line) line in
+    first_of (take (first_space text) text) (words_of line) (words_of (drop (first_space text) text))
+    (sym (skipped line) ∙ before_space [] text)
+    (λ h. ap (λ t. words_of (drop (first_space t) t)) (none_left line h) ∙ nothing)
 
-    moves : from < length line → from < r.end
-    moves h = by (ltb from r.end) refl
-      where
-        by : (b : Bool) → ltb from r.end ≡ b → from < r.end
-        by true e = ltb-true _ _ e
-        by false e =
-            let l : r.end ≤ from = ltb-false _ _ e in
-            absurd (omega (arith, empty_last (omega arith)))
-
-    pub found :
-        words_of (drop from line) ≡ words_of (drop r.start line) →
-        words_of (drop r.start line) ≡ before (part r.start r.end line) (words_of (drop r.end line)) →
-        FirstWord line from r
-    found skipped split =
-        let size = part_length r.start r.end line high in
-        let p =
-        first_of (part r.start r.end line) (words_of (drop from line)) (words_of (drop r.end line))
-        (skipped ∙ split) (λ z. none_remaining line r.end (omega (arith, empty_last (omega arith)))) in
-        record {
-          low = low;
-          middle = middle;
-          high = high;
-          onward = moves;
-          word = p.0;
-          rest = p.1;
-          none = λ e. skipped ∙ none_remaining line r.start (empty_last (omega arith));
-        }
-
-pub word_length :
-    (line : List ℕ) (from : ℕ) (r : Word) → FirstWord line from r →
-    length (word_at 0 (words_of (drop from line))) ≡ r.end - r.start
-word_length line from r f = rw (← f.word) (part_length r.start r.end line f.high)
+pub next_word :
+    (line text : List ℕ) (start end : ℕ) →
+    start ≡ unwrap_or (position (λ b. not (eqb b 32)) line) (length line) → text ≡ drop start line →
+    end ≡ unwrap_or (position (λ b. eqb b 32) text) (length text) →
+    (take end text ≡ word_at 0 (words_of line)) × (words_of (drop end text) ≡ drop 1 (words_of line))
+next_word line text start end s t e =
+    let p : start ≡ first_letter line = s ∙ place (λ b. not (eqb b 32)) line in
+    let q : end ≡ first_space text = e ∙ place (λ b. eqb b 32) text in
+    rw (q, t, p) (found line)

@@ -1,78 +1,61 @@
 -- A line of a file of readings: a call's name, its arguments, and `= answer value` or nothing, which is `= 0 0`.
-use Rattle.std.specs.Prelude.{ℕ, ◌≤◌, ◌≡◌, cond, ◌&&◌, List, ltb, eqb, length, get_or, drop}
-use Rattle.test_reading_lines.specs.Words.{ascii, words_of, word_at, missing, same}
+use Rattle.std.specs.Prelude.{ℕ, cond, ◌&&◌, List, eqb, length, get_or, drop, Option, None, Some}
+use Rattle.std.specs.Option.{option_and_then, option_map_or}
+use Rattle.std.specs.Str.{bytes_eq}
+use Rattle.test_reading_lines.specs.Words.{ascii, words_of, word_at, missing}
 use Rattle.test_reading_lines.specs.Number.{up_to}
-use Rattle.test_reading_lines.specs.Calls.{largest, no_call, call_of, limits_of}
-use Rattle.test_reading_lines.specs.declared.number.Number.{Number}
-use Rattle.test_reading_lines.specs.declared.number.Number.TheVariants.{Value, NotOne}
-use Rattle.test_reading_lines.specs.declared.line.Expected.{Expected}
-use Rattle.test_reading_lines.specs.declared.line.Expected.TheVariants.{Pair, NoPair}
-use Rattle.test_reading_lines.specs.declared.line.Part.{Part}
-use Rattle.test_reading_lines.specs.declared.line.Kind.{Kind}
-use Rattle.test_reading_lines.specs.declared.line.Kind.TheVariants.{Name, Call, Note, Damaged}
+use Rattle.test_reading_lines.specs.Calls.{largest, call_of, limits_of, argument_of, after_argument}
+use Rattle.test_reading_lines.specs.declared.call.Call.{Call}
+use Rattle.test_reading_lines.specs.declared.line.Answered.{Answered}
+use Rattle.test_reading_lines.specs.declared.line.CallLine.{CallLine}
 use Rattle.test_reading_lines.specs.declared.line.Line.{Line}
-
-abbrev pub without_call : Kind → Line
-without_call kind = record { kind = kind; call = no_call; first = 0; second = 0; answer = 0; value = 0 }
-
--- argument i of a call, of the words after its name, and 0 where it takes fewer
-unfoldable pub argument_of : List ℕ → ℕ → List (List ℕ) → Number
-argument_of limits i words = cond (ltb i (length limits)) (up_to (get_or limits i 0) (word_at i words)) (Value 0)
+use Rattle.test_reading_lines.specs.declared.line.Line.TheVariants as line
 
 -- the last number in the table of answers
 abbrev pub largest_answer : ℕ
 largest_answer = 9
 
+abbrev pub answered : ℕ → ℕ → Answered
+answered answer value = record { answer = answer; value = value }
+
 -- an answer and a value that could both be read
-abbrev pub pair_of : Number → Number → Expected
-pair_of (Value answer) (Value value) = Pair answer value
-pair_of (Value answer) NotOne = NoPair
-pair_of NotOne value = NoPair
+abbrev pub pair_of : Option ℕ → Option ℕ → Option Answered
+pair_of (Some answer) (Some value) = Some (answered answer value)
+pair_of (Some answer) None = None
+pair_of None value = None
 
 -- what the words after the arguments say: `=` and two numbers, or nothing
-unfoldable pub expected_of : List (List ℕ) → Expected
+unfoldable pub expected_of : List (List ℕ) → Option Answered
 expected_of words =
     cond (missing (word_at 0 words))
-    (Pair 0 0)
-    (cond (same (word_at 0 words) (ascii "=") && missing (word_at 3 words))
+    (Some (answered 0 0))
+    (cond (bytes_eq (word_at 0 words) (ascii "=") && missing (word_at 3 words))
     (pair_of (up_to largest_answer (word_at 1 words)) (up_to (largest 64) (word_at 2 words)))
-    NoPair)
+    None)
 
 -- a line of four parts that could all be read
-abbrev pub whole_of : ℕ → Number → Number → Expected → Line
-whole_of call (Value first) (Value second) (Pair answer value) = record {
-  kind = Call;
-  call = call;
-  first = first;
-  second = second;
-  answer = answer;
-  value = value;
-}
-whole_of call (Value first) (Value second) NoPair = without_call Damaged
-whole_of call (Value first) NotOne expected = without_call Damaged
-whole_of call NotOne second expected = without_call Damaged
+abbrev pub whole_of : Call → Option ℕ → Option ℕ → Option Answered → Option CallLine
+whole_of call (Some first) (Some second) (Some expected) =
+    Some (record { call = call; first = first; second = second; expected = expected })
+whole_of call (Some first) (Some second) None = None
+whole_of call (Some first) None expected = None
+whole_of call None second expected = None
 
 -- a call, and the words after its name
-unfoldable pub call_with : ℕ → List (List ℕ) → Line
+unfoldable pub call_with : Call → List (List ℕ) → Option CallLine
 call_with call words =
     let limits = limits_of call in
-    whole_of call (argument_of limits 0 words) (argument_of limits 1 words) (expected_of (drop (length limits) words))
+    let rest = after_argument limits.0 words in
+    whole_of call (argument_of limits.0 words) (argument_of limits.1 rest)
+    (expected_of (after_argument limits.1 rest))
 
 -- a call by its name
-unfoldable pub call_line : List (List ℕ) → Line
-call_line words =
-    let call = call_of (word_at 0 words) in
-    cond (ltb call no_call) (call_with call (drop 1 words)) (without_call Damaged)
+unfoldable pub call_line : List (List ℕ) → Option CallLine
+call_line words = option_and_then (λ call. call_with call (drop 1 words)) (call_of (word_at 0 words))
 
 -- `#` begins the name of a reading, and `-` a note; an empty line is one too
 unfoldable pub line_of : List ℕ → Line
-line_of line =
-    cond (eqb (length line) 0) (without_call Note)
-    (cond (eqb (get_or line 0 0) 35) (without_call Name)
-    (cond (eqb (get_or line 0 0) 45) (without_call Note) (call_line (words_of line))))
-
--- a number read at a place of a line, and the words after it
-pub record Read (line : List ℕ) (n : Number) (words : List (List ℕ)) (r : Part) : Type 0 where
-  pub number : r.number ≡ n
-  pub rest : words_of (drop r.end line) ≡ words
-  pub inside : r.end ≤ length line
+line_of text =
+    cond (eqb (length text) 0) line.Note
+    (cond (eqb (get_or text 0 0) 35) line.Name
+    (cond (eqb (get_or text 0 0) 45) line.Note (option_map_or line.Call (call_line (words_of text)) line.Damaged)))

@@ -1,8 +1,8 @@
 -- What a line comes to, and the lines counted.
 use Rattle.std.specs.Prelude.{ℕ, ◌+◌, ◌-◌, ◌^◌, Bool, true, false, cond, ◌&&◌, ltb, eqb}
-use Rattle.test_reading_lines.specs.declared.line.Kind.{Kind}
-use Rattle.test_reading_lines.specs.declared.line.Kind.TheVariants as kind
+use Rattle.test_reading_lines.specs.declared.line.Answered.{Answered}
 use Rattle.test_reading_lines.specs.declared.line.Line.{Line}
+use Rattle.test_reading_lines.specs.declared.line.Line.TheVariants as line
 use Rattle.test_reading_lines.specs.declared.tally.Outcome.{Outcome}
 use Rattle.test_reading_lines.specs.declared.tally.Outcome.TheVariants.{Name, Note, Agrees, Differs, Damaged}
 use Rattle.test_reading_lines.specs.declared.tally.Tally.{Tally}
@@ -12,16 +12,13 @@ abbrev pub compared : Bool → Outcome
 compared true = Agrees
 compared false = Differs
 
-abbrev pub outcome_by : Kind → Outcome → Outcome
-outcome_by kind.Name call = Name
-outcome_by kind.Note call = Note
-outcome_by kind.Damaged call = Damaged
-outcome_by kind.Call call = call
-
 -- both the number and the value are compared
-unfoldable pub outcome_of : Line → ℕ → ℕ → Outcome
-outcome_of line answer value =
-    outcome_by line.kind (compared (eqb answer line.answer && eqb value line.value))
+unfoldable pub outcome_of : Line → Answered → Outcome
+outcome_of line.Name came = Name
+outcome_of line.Note came = Note
+outcome_of line.Damaged came = Damaged
+outcome_of (line.Call call) came =
+    compared (eqb came.answer call.expected.answer && eqb came.value call.expected.value)
 
 abbrev pub tally : ℕ → ℕ → ℕ → ℕ → ℕ → Tally
 tally readings agree differ damaged line =

@@ -1,18 +1,13 @@
 -- The words of a line: what is between spaces.
-use Rattle.std.specs.Prelude.{ℕ, suc, ◌-◌, ◌≤◌, ◌<◌, ◌≡◌, Bool, true, false, cond, ◌&&◌, List, [], ◌∷◌, ◌++◌, eqb}
-use Rattle.std.specs.Prelude.{length, get_or, take, drop}
+use Rattle.std.specs.Prelude.{ℕ, Bool, cond, not, List, [], ◌∷◌, ◌++◌, ◌==◌, eqb, length, get_or, Option}
+use Rattle.std.specs.List.{position}
 use Prim.Native.Char.{code}
 use Prim.Native.String.{String, [] as empty, ◌∷◌ as then}
-use Rattle.test_reading_lines.specs.declared.words.Word.{Word}
 
 -- the bytes of a text
 abbrev pub ascii : String → List ℕ
 ascii empty = []
 ascii (then c text) = code c ∷ ascii text
-
--- the bytes from one place up to another
-abbrev pub part : ℕ → ℕ → List ℕ → List ℕ
-part from to line = take (to - from) (drop from line)
 
 -- some bytes are a word before others, or none
 abbrev pub before : List ℕ → List (List ℕ) → List (List ℕ)
@@ -35,23 +30,9 @@ word_at n words = get_or words n []
 abbrev pub missing : List ℕ → Bool
 missing word = eqb (length word) 0
 
-unfoldable pub same : List ℕ → List ℕ → Bool
-same [] [] = true
-same [] (y ∷ ys) = false
-same (x ∷ xs) [] = false
-same (x ∷ xs) (y ∷ ys) = eqb x y && same xs ys
+-- where a line's first byte is that is no space, and that is one
+abbrev pub word_start : List ℕ → Option ℕ
+word_start line = position (λ b. not (b == 32)) line
 
--- how many words come before the first that equals a word
-unfoldable pub place_in : List (List ℕ) → List ℕ → ℕ
-place_in [] word = 0
-place_in (w ∷ ws) word = cond (same w word) 0 (suc (place_in ws word))
-
--- the place of the first word from a place on, which is empty at the line's end
-pub record FirstWord (line : List ℕ) (from : ℕ) (r : Word) : Type 0 where
-  pub low : from ≤ r.start
-  pub middle : r.start ≤ r.end
-  pub high : r.end ≤ length line
-  pub onward : from < length line → from < r.end
-  pub word : part r.start r.end line ≡ word_at 0 (words_of (drop from line))
-  pub rest : words_of (drop r.end line) ≡ drop 1 (words_of (drop from line))
-  pub none : r.start ≡ r.end → words_of (drop from line) ≡ []
+abbrev pub word_end : List ℕ → Option ℕ
+word_end text = position (λ b. b == 32) text

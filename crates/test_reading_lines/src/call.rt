@@ -1,124 +1,168 @@
-// The calls that a line can make, by the place of their names in a list: `set-..` sets, a bare name reads.
-ghost use Rattle.std.specs.Prelude.{◌≡◌, ◌<◌};
-ghost use Rattle.test_reading_lines.specs.Calls.{no_call, call_of, limits_of, as_limits};
+// The calls that a line can make, by their names: `set-..` sets, and a bare name reads.
+ghost use Rattle.std.specs.Prelude.{◌≡◌};
+ghost use Rattle.test_reading_lines.specs.Calls.{setting_of, query_of, field_of, lone_call, call_of, limits_of};
 
-use crate::words::place_in;
-
-pub const SET_VL: u64 = 0;
-
-pub const SET_VL_IMMEDIATE: u64 = 1;
-
-pub const SET_MVL: u64 = 2;
-
-pub const SET_CFG: u64 = 3;
-
-pub const SET_ENTRY: u64 = 4;
-
-pub const SET_PREDICATE: u64 = 5;
-
-pub const SET_X: u64 = 6;
-
-pub const SET_PC: u64 = 7;
-
-pub const SET_STATE: u64 = 8;
-
-pub const VL: u64 = 9;
-
-pub const MVL: u64 = 10;
-
-pub const CFG: u64 = 11;
-
-pub const ENTRY: u64 = 12;
-
-pub const PREDICATE: u64 = 13;
-
-pub const X: u64 = 14;
-
-pub const PC: u64 = 15;
-
-pub const STATE: u64 = 16;
-
-pub const RUN: u64 = 17;
-
-pub const STEP: u64 = 18;
-// A field written past the calls, so that a machine can be put out of shape.
-pub const WRITE_MVL: u64 = 19;
-
-pub const WRITE_VL: u64 = 20;
-
-pub const WRITE_CFG: u64 = 21;
-
-pub const WRITE_SOURCE: u64 = 22;
-
-pub const WRITE_DESTINATION: u64 = 23;
-
-pub const WRITE_X0: u64 = 24;
-
-pub const WRITE_PREDICATE: u64 = 25;
-// The memory's length, and 8 bytes of it, put and read.
-pub const MEMORY: u64 = 26;
-
-pub const PUT: u64 = 27;
-
-pub const BYTES: u64 = 28;
-
-pub const NONE: u64 = 29;
-
-pub(crate) fn call_of(word: &[u8]) -> u64
-    ensures { result ≡ call_of word.now }
-{
-    place_in(
-        b"set-vl set-vl-immediate set-mvl set-cfg set-entry set-predicate set-x set-pc set-state vl mvl \
-            cfg entry predicate x pc state run step write-mvl write-vl write-cfg write-source \
-            write-destination write-x0 write-predicate memory put bytes",
-        word,
-    )
+#[derive(Clone, Copy)]
+pub enum Setting {
+    Vl,
+    VlImmediate,
+    Mvl,
+    Cfg,
+    Entry,
+    Predicate,
+    X,
+    Pc,
+    State,
 }
 
-// How many numbers a call takes, and the largest that the first and the second can be.
 #[derive(Clone, Copy)]
-pub struct Limits(pub u64, pub u64, pub u64);
+pub enum Query {
+    Vl,
+    Mvl,
+    Cfg,
+    Entry,
+    Predicate,
+    X,
+    Pc,
+    State,
+}
 
-const MAX64: u64 = 18446744073709551615;
+// A field that is written past the calls, so that a machine can be put out of shape.
+#[derive(Clone, Copy)]
+pub enum Field {
+    Mvl,
+    Vl,
+    Cfg,
+    Source,
+    Destination,
+    X0,
+    Predicate,
+}
 
-const MAX32: u64 = 4294967295;
+#[derive(Clone, Copy)]
+pub enum Call {
+    Set(Setting),
+    Read(Query),
+    Run,
+    Step,
+    Write(Field),
+    // The memory's length, and 8 bytes of it, put and read.
+    Memory,
+    Put,
+    Bytes,
+}
 
-// In the order of the names.
-const LIMITS: [Limits; 29] = [
-    Limits(1, MAX64, 0),
-    Limits(1, MAX32, 0),
-    Limits(1, MAX32, 0),
-    Limits(1, MAX32, 0),
-    Limits(2, MAX32, 65535),
-    Limits(2, MAX32, 65535),
-    Limits(2, MAX32, MAX64),
-    Limits(1, MAX64, 0),
-    Limits(1, MAX32, 0),
-    Limits(0, 0, 0),
-    Limits(0, 0, 0),
-    Limits(0, 0, 0),
-    Limits(1, MAX32, 0),
-    Limits(1, MAX32, 0),
-    Limits(1, MAX32, 0),
-    Limits(0, 0, 0),
-    Limits(0, 0, 0),
-    Limits(2, MAX32, 65535),
-    Limits(1, MAX32, 0),
-    Limits(1, MAX32, 0),
-    Limits(1, MAX32, 0),
-    Limits(1, MAX32, 0),
-    Limits(1, MAX32, 0),
-    Limits(1, MAX32, 0),
-    Limits(1, MAX64, 0),
-    Limits(2, 15, 65535),
-    Limits(1, 128, 0),
-    Limits(2, 127, MAX64),
-    Limits(1, 127, 0),
-];
+// The largest number that each argument of a call can be, where it takes one.
+#[derive(Clone, Copy)]
+pub struct Limits(pub Option<u64>, pub Option<u64>);
 
-pub(crate) fn limits_of(call: u64) -> Limits
-    requires { call < no_call }
-    ensures { result ≡ as_limits (limits_of call) }
+const MAX16: u64 = u16::MAX as u64;
+
+const MAX32: u64 = u32::MAX as u64;
+
+impl Setting {
+    fn of(name: &[u8]) -> Option<Setting>
+        ensures { result ≡ setting_of name.now }
+    {
+        match name {
+            b"set-vl" => Some(Setting::Vl),
+            b"set-vl-immediate" => Some(Setting::VlImmediate),
+            b"set-mvl" => Some(Setting::Mvl),
+            b"set-cfg" => Some(Setting::Cfg),
+            b"set-entry" => Some(Setting::Entry),
+            b"set-predicate" => Some(Setting::Predicate),
+            b"set-x" => Some(Setting::X),
+            b"set-pc" => Some(Setting::Pc),
+            b"set-state" => Some(Setting::State),
+            _ => None,
+        }
+    }
+}
+
+impl Query {
+    fn of(name: &[u8]) -> Option<Query>
+        ensures { result ≡ query_of name.now }
+    {
+        match name {
+            b"vl" => Some(Query::Vl),
+            b"mvl" => Some(Query::Mvl),
+            b"cfg" => Some(Query::Cfg),
+            b"entry" => Some(Query::Entry),
+            b"predicate" => Some(Query::Predicate),
+            b"x" => Some(Query::X),
+            b"pc" => Some(Query::Pc),
+            b"state" => Some(Query::State),
+            _ => None,
+        }
+    }
+}
+
+impl Field {
+    fn of(name: &[u8]) -> Option<Field>
+        ensures { result ≡ field_of name.now }
+    {
+        match name {
+            b"write-mvl" => Some(Field::Mvl),
+            b"write-vl" => Some(Field::Vl),
+            b"write-cfg" => Some(Field::Cfg),
+            b"write-source" => Some(Field::Source),
+            b"write-destination" => Some(Field::Destination),
+            b"write-x0" => Some(Field::X0),
+            b"write-predicate" => Some(Field::Predicate),
+            _ => None,
+        }
+    }
+}
+
+// The calls that stand alone.
+fn lone_call(name: &[u8]) -> Option<Call>
+    ensures { result ≡ lone_call name.now }
 {
-    LIMITS[call as usize]
+    match name {
+        b"run" => Some(Call::Run),
+        b"step" => Some(Call::Step),
+        b"memory" => Some(Call::Memory),
+        b"put" => Some(Call::Put),
+        b"bytes" => Some(Call::Bytes),
+        _ => None,
+    }
+}
+
+impl Call {
+    pub(crate) fn of(name: &[u8]) -> Option<Call>
+        ensures { result ≡ call_of name.now }
+    {
+        if let Some(setting) = Setting::of(name) {
+            return Some(Call::Set(setting));
+        }
+        if let Some(query) = Query::of(name) {
+            return Some(Call::Read(query));
+        }
+        if let Some(field) = Field::of(name) {
+            return Some(Call::Write(field));
+        }
+        lone_call(name)
+    }
+
+    #[tactic(auto, unfolding(crate::specs::Calls::limits_of))]
+    pub(crate) fn limits(self) -> Limits
+        ensures { result ≡ limits_of self }
+    {
+        match self {
+            Call::Set(Setting::Vl | Setting::Pc) => Limits(Some(u64::MAX), None),
+            Call::Set(Setting::Entry | Setting::Predicate) => Limits(Some(MAX32), Some(MAX16)),
+            Call::Set(Setting::X) => Limits(Some(MAX32), Some(u64::MAX)),
+            Call::Set(_) => Limits(Some(MAX32), None),
+            Call::Read(Query::Entry | Query::Predicate | Query::X) => Limits(Some(MAX32), None),
+            Call::Read(_) => Limits(None, None),
+            Call::Run => Limits(Some(MAX32), Some(MAX16)),
+            Call::Step => Limits(Some(MAX32), None),
+            Call::Write(Field::X0) => Limits(Some(u64::MAX), None),
+            Call::Write(Field::Predicate) => Limits(Some(15), Some(MAX16)),
+            Call::Write(_) => Limits(Some(MAX32), None),
+            Call::Memory => Limits(Some(128), None),
+            Call::Put => Limits(Some(127), Some(u64::MAX)),
+            Call::Bytes => Limits(Some(127), None),
+        }
+    }
 }

@@ -1,8 +1,10 @@
 ghost use Rattle.std.specs.Prelude.{◌≡◌};
-ghost use Rattle.test_reading_lines.specs.Tally.{outcome_of, tally, one_more, with_outcome, with_file};
+ghost use Rattle.test_reading_lines.specs.Tally.{outcome_of, tally, with_outcome, with_file};
 
-use crate::line::{Kind, Line};
+use crate::line::{Answered, Line};
+use std::fmt;
 
+// A count stays at the largest number, which no file reaches.
 #[derive(Clone, Copy)]
 pub struct Tally {
     pub readings: u64,
@@ -23,34 +25,22 @@ pub enum Outcome {
     Damaged,
 }
 
-// A count stays at the largest number, which no file reaches.
-#[tactic(auto, unfolding(crate::specs::Tally::one_more))]
-fn one_more(n: u64) -> u64
-    ensures { result ≡ one_more n }
-{
-    if n < u64::MAX { n + 1 } else { n }
-}
-
 // What a line comes to with what its call answered.
 #[tactic(auto, unfolding(crate::specs::Tally::outcome_of))]
-pub fn outcome_of(line: Line, answer: u64, value: u64) -> Outcome
-    ensures { result ≡ outcome_of line answer value }
+pub fn outcome_of(line: Line, came: Answered) -> Outcome
+    ensures { result ≡ outcome_of line came }
 {
-    let kind = line.kind;
-    match kind {
-        Kind::Name => Outcome::Name,
-        Kind::Note => Outcome::Note,
-        Kind::Damaged => Outcome::Damaged,
-        Kind::Call => {
-            if (answer == line.answer) & (value == line.value) {
-                return Outcome::Agrees;
-            }
-            Outcome::Differs
-        }
+    match line {
+        Line::Name => Outcome::Name,
+        Line::Note => Outcome::Note,
+        Line::Damaged => Outcome::Damaged,
+        Line::Call(call) if came == call.expected => Outcome::Agrees,
+        Line::Call(_) => Outcome::Differs,
     }
 }
 
 impl Tally {
+    // Not derived: the contract says each field.
     pub fn new() -> Tally
         ensures { result ≡ tally 0 0 0 0 0 }
     {
@@ -63,31 +53,46 @@ impl Tally {
         }
     }
 
-    #[tactic(auto, unfolding(crate::specs::Tally::with_outcome))]
+    #[tactic(auto, unfolding(crate::specs::Tally::with_outcome, crate::specs::Tally::one_more))]
     pub fn with_outcome(mut self, outcome: Outcome) -> Tally
         ensures { result ≡ with_outcome outcome self }
     {
-        self.line = one_more(self.line);
+        self.line = self.line.saturating_add(1);
         match outcome {
-            Outcome::Name => self.readings = one_more(self.readings),
+            Outcome::Name => self.readings = self.readings.saturating_add(1),
             Outcome::Note => {}
-            Outcome::Agrees => self.agree = one_more(self.agree),
-            Outcome::Differs => self.differ = one_more(self.differ),
-            Outcome::Damaged => self.damaged = one_more(self.damaged),
+            Outcome::Agrees => self.agree = self.agree.saturating_add(1),
+            Outcome::Differs => self.differ = self.differ.saturating_add(1),
+            Outcome::Damaged => self.damaged = self.damaged.saturating_add(1),
         }
         self
     }
 
     // A file's lines come next. One that could not be read whole counts as a damaged line.
-    #[tactic(auto, unfolding(crate::specs::Tally::with_file))]
+    #[tactic(auto, unfolding(crate::specs::Tally::with_file, crate::specs::Tally::one_more))]
     pub fn with_file(mut self, whole: bool) -> Tally
         ensures { result ≡ with_file whole self }
     {
         self.line = 0;
-        if whole {
-            return self;
+        if !whole {
+            self.damaged = self.damaged.saturating_add(1);
         }
-        self.damaged = one_more(self.damaged);
         self
+    }
+}
+
+impl fmt::Display for Tally {
+    fn fmt<W: fmt::Write>(&self, f: &mut fmt::Formatter<W>) -> fmt::Result {
+        let Tally {
+            readings,
+            agree,
+            differ,
+            damaged,
+            line: _,
+        } = *self;
+        write!(
+            f,
+            "{readings} readings, {agree} lines agree, {differ} differ, {damaged} damaged"
+        )
     }
 }

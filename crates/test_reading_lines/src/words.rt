@@ -1,77 +1,73 @@
-ghost use Rattle.std.specs.Prelude.{◌≡◌, ◌≤◌, ◌<◌, length, get_or, drop};
-ghost use Rattle.test_reading_lines.specs.Words.{part, before, words_of, place_in, FirstWord};
+ghost use Rattle.std.specs.Prelude.{◌≡◌, ℕ, List, drop};
+ghost use Rattle.test_reading_lines.specs.Words.{word_start, word_end, words_of, word_at};
+ghost use Rattle.test_reading_lines.specs.Number.{up_to};
+ghost use Rattle.test_reading_lines.specs.Calls.{argument_of, after_argument};
 
-use check::same;
+use crate::number::up_to;
+use std::marker::Model;
 
-#[derive(Clone, Copy)]
-pub struct Word {
-    pub start: usize,
-    pub end: usize,
+// Where the spaces before the next word end.
+fn word_start(line: &[u8]) -> Option<usize>
+    ensures { result ≡ word_start line.now }
+{
+    line.iter().position(|&byte| byte != b' ')
 }
 
-// Past the spaces from a place on.
-fn past_spaces(line: &[u8], from: usize) -> usize
-    requires { from ≤ length line.now }
-    ensures lower_bound { (from ≤ result) × (result ≤ length line.now) }
-    ensures line_value { words_of (drop from line.now) ≡ words_of (drop result line.now) }
-    ensures fact { result < length line.now → get_or line.now result 0 ≡ 32 → ⊥ }
+fn word_end(text: &[u8]) -> Option<usize>
+    ensures { result ≡ word_end text.now }
 {
-    let mut i = from;
-    while i < line.len() {
-        if line[i] != b' ' {
-            return i;
-        }
-        i += 1;
+    text.iter().position(|&byte| byte == b' ')
+}
+
+// What is left of a line, word by word.
+#[derive(Drop)]
+pub(crate) struct Words<'a> {
+    rest: &'a [u8],
+}
+
+impl<'a> Model for Words<'a> {
+    ghost Value = { List (List ℕ) };
+
+    ghost view = { λ w. words_of w.rest.now };
+}
+
+pub(crate) fn words_of(line: &[u8]) -> Words<'_>
+    ensures { result ≡ words_of line.now }
+{
+    Words { rest: line }
+}
+
+impl<'a> Words<'a> {
+    // The next word, which is empty at the end of the line.
+    pub(crate) fn next(&mut self) -> &'a [u8]
+        ensures word { result.now ≡ word_at 0 self.old }
+        ensures rest { self.new ≡ drop 1 self.old }
+    {
+        let line = self.rest;
+        let start = word_start(line).unwrap_or(line.len());
+        let text = &line[start..];
+        let end = word_end(text).unwrap_or(text.len());
+        let (word, rest) = text.split_at(end);
+        self.rest = rest;
+        word
     }
-    i
-}
 
-// Past the bytes that are no spaces.
-fn word_end(line: &[u8], from: usize) -> usize
-    requires { from ≤ length line.now }
-    ensures lower_bound { (from ≤ result) × (result ≤ length line.now) }
-    ensures text_value { let text = line.now in
-        words_of (drop from text) ≡ before (part from result text) (words_of (drop result text)) }
-    ensures result_value { result < length line.now → get_or line.now result 0 ≡ 32 }
-{
-    let mut i = from;
-    while i < line.len() {
-        if line[i] == b' ' {
-            return i;
-        }
-        i += 1;
+    // The next word as a number that is not above a limit.
+    pub(crate) fn up_to(&mut self, most: u64) -> Option<u64>
+        ensures value { result ≡ up_to most (word_at 0 self.old) }
+        ensures rest { self.new ≡ drop 1 self.old }
+    {
+        up_to(self.next(), most)
     }
-    i
-}
 
-// The next word from a place on. At the end of the line it is empty.
-pub(crate) fn next_word(line: &[u8], from: usize) -> Word
-    requires { from ≤ length line.now }
-    ensures { FirstWord line.now from result }
-{
-    let start = past_spaces(line, from);
-    let end = word_end(line, start);
-    Word { start, end }
-}
-
-// How many words of a list come before a word.
-pub(crate) fn place_in(list: &[u8], word: &[u8]) -> u64
-    ensures { result ≡ place_in (words_of list.now) word.now }
-{
-    let mut n: u64 = 0;
-    let mut at: usize = 0;
-    while at < list.len() {
-        let next = next_word(list, at);
-        let start = next.start;
-        let end = next.end;
-        if start == end {
-            return n;
+    // An argument of a call, and 0 with no word where it takes none.
+    pub(crate) fn argument_of(&mut self, most: Option<u64>) -> Option<u64>
+        ensures value { result ≡ argument_of most self.old }
+        ensures rest { self.new ≡ after_argument most self.old }
+    {
+        match most {
+            Some(most) => self.up_to(most),
+            None => Some(0),
         }
-        if same(&list[start..end], word) {
-            return n;
-        }
-        n += 1;
-        at = end;
     }
-    n
 }

@@ -1,89 +1,112 @@
-// The calls made on a machine. Each function passes on the reply that it is given where the call is not one of its own.
+// A machine, the memory that is lent to it, and the calls made on them.
+use crate::bytes::{bytes, put};
+use answers::Answer;
 use machine::{Machine, Reply};
-use state_word::State;
 use tables::entry::with_entry;
-use test_reading_lines::call as c;
+use test_reading_lines::call::{Call, Field, Query, Setting};
+use test_reading_lines::line::CallLine;
 
-// A line's numbers were read within these bounds.
-fn low16(n: u64) -> u16 {
-    (n % 65536) as u16
+// A line's numbers were read within the bounds of its call, so none is cut where it is used.
+fn narrow<T: TryFrom<u64> + Default>(n: u64) -> T
+where
+    T::Error: Drop,
+{
+    T::try_from(n).unwrap_or_default()
 }
 
-fn low32(n: u64) -> u32 {
-    (n % 4294967296) as u32
-}
-
-pub(crate) fn set(reply: Reply, call: u64, a: u64, b: u64) -> Reply {
-    let machine = reply.machine;
-    match call {
-        c::SET_VL => machine.set_vl(a),
-        c::SET_VL_IMMEDIATE => machine.set_vl_immediate(low32(a)),
-        c::SET_MVL => machine.set_mvl(low32(a)),
-        c::SET_CFG => machine.set_cfg(low32(a)),
-        c::SET_ENTRY => machine.set_register_entry(low32(a), low16(b)),
-        c::SET_PREDICATE => machine.set_predicate_entry(low32(a), low16(b)),
-        c::SET_X => machine.set_register(low32(a), b),
-        c::SET_PC => machine.set_pc(a),
-        c::SET_STATE => machine.set_state_word(low32(a)),
-        _ => reply,
+fn set(machine: Machine, setting: Setting, a: u64, b: u64) -> Reply {
+    match setting {
+        Setting::Vl => machine.set_vl(a),
+        Setting::VlImmediate => machine.set_vl_immediate(narrow(a)),
+        Setting::Mvl => machine.set_mvl(narrow(a)),
+        Setting::Cfg => machine.set_cfg(narrow(a)),
+        Setting::Entry => machine.set_register_entry(narrow(a), narrow(b)),
+        Setting::Predicate => machine.set_predicate_entry(narrow(a), narrow(b)),
+        Setting::X => machine.set_register(narrow(a), b),
+        Setting::Pc => machine.set_pc(a),
+        Setting::State => machine.set_state_word(narrow(a)),
     }
 }
 
-pub(crate) fn read(reply: Reply, call: u64, a: u64) -> Reply {
-    let machine = reply.machine;
-    match call {
-        c::VL => machine.read_vl(),
-        c::MVL => machine.read_mvl(),
-        c::CFG => machine.read_cfg(),
-        c::ENTRY => machine.read_register_entry(low32(a)),
-        c::PREDICATE => machine.read_predicate_entry(low32(a)),
-        c::X => machine.read_register(low32(a)),
-        c::PC => machine.read_pc(),
-        c::STATE => machine.read_state_word(),
-        _ => reply,
+fn read(machine: Machine, query: Query, a: u64) -> Reply {
+    match query {
+        Query::Vl => machine.read_vl(),
+        Query::Mvl => machine.read_mvl(),
+        Query::Cfg => machine.read_cfg(),
+        Query::Entry => machine.read_register_entry(narrow(a)),
+        Query::Predicate => machine.read_predicate_entry(narrow(a)),
+        Query::X => machine.read_register(narrow(a)),
+        Query::Pc => machine.read_pc(),
+        Query::State => machine.read_state_word(),
     }
 }
 
-pub(crate) fn run(reply: Reply, call: u64, a: u64, b: u64, memory: &mut [u8]) -> Reply {
-    let machine = reply.machine;
-    match call {
-        c::RUN => machine.run(low32(a), low16(b), memory),
-        c::STEP => machine.step(low32(a), memory),
-        _ => reply,
+// A field written past the calls.
+fn written(mut machine: Machine, field: Field, a: u64, b: u64) -> Machine {
+    match field {
+        Field::Mvl => machine.state.mvl = narrow(a),
+        Field::Vl => machine.state.vl = narrow(a),
+        Field::Cfg => machine.state.cfg = narrow(a),
+        Field::Source => machine.state.source = narrow(a),
+        Field::Destination => machine.state.destination = narrow(a),
+        Field::X0 => machine.registers[0] = a,
+        Field::Predicate => {
+            machine.predicate_table = with_entry(machine.predicate_table, narrow(a), narrow(b));
+        }
     }
-}
-
-fn state_written(mut state: State, call: u64, n: u32) -> State {
-    match call {
-        c::WRITE_MVL => state.mvl = n,
-        c::WRITE_VL => state.vl = n,
-        c::WRITE_CFG => state.cfg = n,
-        c::WRITE_SOURCE => state.source = n,
-        c::WRITE_DESTINATION => state.destination = n,
-        _ => {}
-    }
-    state
-}
-
-fn zero_written(old: u64, call: u64, value: u64) -> u64 {
-    if call == c::WRITE_X0 { value } else { old }
-}
-
-fn predicates_written(old: [u16; 16], call: u64, index: u32, entry: u16) -> [u16; 16] {
-    if call == c::WRITE_PREDICATE {
-        return with_entry(old, index, entry);
-    }
-    old
-}
-
-// A field written past the calls, where the line is to do that.
-pub(crate) fn written(mut machine: Machine, call: u64, a: u64, b: u64) -> Machine {
-    let old = machine.state;
-    let state = state_written(old, call, low32(a));
-    machine.state = state;
-    machine.registers[0] = zero_written(machine.registers[0], call, a);
-    let entries = machine.predicate_table;
-    let table = predicates_written(entries, call, low32(a), low16(b));
-    machine.predicate_table = table;
     machine
+}
+
+fn done(machine: Machine, value: u64) -> Reply {
+    Reply {
+        answer: Answer::Done(value),
+        machine,
+    }
+}
+
+const ROOM: usize = 128;
+
+#[derive(Drop)]
+pub(crate) struct Bench {
+    machine: Machine,
+    // What is past the memory's end comes back when the memory grows.
+    room: [u8; ROOM],
+    length: usize,
+}
+
+impl Bench {
+    pub(crate) fn new() -> Bench {
+        Bench {
+            machine: Machine::fresh(),
+            room: [0; ROOM],
+            length: 0,
+        }
+    }
+
+    // A line's call made, on the machine or past it.
+    pub(crate) fn call(&mut self, line: CallLine) -> Answer {
+        let a = line.first;
+        let b = line.second;
+        let at = (a % 128) as usize;
+        let machine = self.machine;
+        let memory = &mut self.room[..self.length.min(ROOM)];
+        let reply = match line.call {
+            Call::Set(setting) => set(machine, setting, a, b),
+            Call::Read(query) => read(machine, query, a),
+            Call::Run => machine.run(narrow(a), narrow(b), memory),
+            Call::Step => machine.step(narrow(a), memory),
+            Call::Write(field) => done(written(machine, field, a, b), 0),
+            Call::Memory => {
+                self.length = a.min(128) as usize;
+                done(machine, 0)
+            }
+            Call::Put => {
+                put(memory, at, b);
+                done(machine, 0)
+            }
+            Call::Bytes => done(machine, bytes(memory, at)),
+        };
+        self.machine = reply.machine;
+        reply.answer
+    }
 }

@@ -11,10 +11,10 @@ use std::rt::{Env, Files};
 use std::str;
 use test_reading_lines::tally::Tally;
 
-// The calls on a machine.
+// A machine with its memory, and the calls on it.
 mod bench;
 
-// The memory that is lent to it.
+// 8 bytes of a memory.
 mod bytes;
 
 // A file's readings and their lines.
@@ -23,7 +23,8 @@ mod text;
 // What is printed of them.
 mod print;
 
-// Reads until the buffer is full, the file ends or a read fails, and gives how many bytes there are.
+// Reads until the buffer is full, the file ends or a read fails, and gives how many bytes there are:
+// no method of the library says that after an error.
 fn read_full(file: &mut impl Read, buffer: &mut [u8]) -> usize
     ensures { result ≤ length buffer.new }
 {
@@ -39,27 +40,29 @@ fn read_full(file: &mut impl Read, buffer: &mut [u8]) -> usize
 }
 
 // The bytes of the file at a path, and none where it can't be opened.
-fn read_file(rt: &impl Files, path: &[u8], buffer: &mut [u8]) -> usize
-    ensures { result ≤ length buffer.new }
-{
+fn read_file<'a>(rt: &impl Files, path: &[u8], buffer: &'a mut [u8]) -> &'a [u8] {
     let Ok(path) = str::from_utf8(path) else {
-        return 0;
+        return &[];
     };
     match File::open(rt, path) {
-        Ok(mut file) => read_full(&mut file, buffer),
-        Err(_) => 0,
+        Ok(mut file) => {
+            let n = read_full(&mut file, buffer);
+            &buffer[..n]
+        }
+        Err(_) => &[],
     }
 }
 
 // A file that fills the buffer may go on after it, and an empty one was not read.
 fn run_file(rt: &(impl Files + Print), path: &[u8], tally: Tally) -> Tally {
     let mut buffer = [0u8; 65536];
-    let n = read_file(rt, path, &mut buffer);
-    let whole = (0 < n) & (n < 65536);
+    let text = read_file(rt, path, &mut buffer);
+    let whole = !text.is_empty() & (text.len() < 65536);
     print::print_file(rt, path, whole);
-    text::run_text(rt, &buffer[..n], tally.with_file(whole))
+    text::run_text(rt, text, tally.with_file(whole))
 }
 
+// With no heap each argument is read into a buffer.
 fn main(rt: HostRuntime) {
     let mut tally = Tally::new();
     for i in 1..usize::MAX {
@@ -70,5 +73,5 @@ fn main(rt: HostRuntime) {
             Err(FillError::NotPresent) => break,
         }
     }
-    print::print_totals(&rt, tally);
+    let _ = println!(rt; "{tally}");
 }

@@ -1,24 +1,10 @@
 // What is printed of the readings.
-use test_reading_lines::line::Line;
+use test_reading_lines::line::{Answered, Line};
 use test_reading_lines::tally::{Outcome, Tally};
 
 fn print_line(rt: &impl Print, number: u64, text: &[u8]) {
     let _ = print!(rt; "\n  line {number}: ");
     let _ = rt.write_all(text);
-}
-
-fn print_difference(
-    rt: &impl Print,
-    number: u64,
-    text: &[u8],
-    line: Line,
-    answer: u64,
-    value: u64,
-) {
-    print_line(rt, number, text);
-    let wanted_answer = line.answer;
-    let wanted_value = line.value;
-    let _ = print!(rt; ": expected {wanted_answer} {wanted_value:#x}, came {answer} {value:#x}");
 }
 
 // A line, by its number in the file, and what its call answered.
@@ -28,19 +14,23 @@ pub(crate) fn print_outcome(
     number: u64,
     text: &[u8],
     line: Line,
-    answer: u64,
-    value: u64,
+    came: Answered,
 ) {
     match outcome {
         Outcome::Name => {
             let _ = rt.write_all(text);
         }
-        Outcome::Differs => print_difference(rt, number, text, line, answer, value),
+        Outcome::Differs => {
+            print_line(rt, number, text);
+            if let Line::Call(call) = line {
+                let _ = print!(rt; ": expected {}, came {came}", call.expected);
+            }
+        }
         Outcome::Damaged => {
             print_line(rt, number, text);
             let _ = print!(rt; ": damaged");
         }
-        _ => {}
+        Outcome::Note | Outcome::Agrees => {}
     }
 }
 
@@ -63,17 +53,4 @@ pub(crate) fn print_file(rt: &impl Print, path: &[u8], whole: bool) {
         return;
     }
     let _ = println!(rt; ": not read whole");
-}
-
-pub(crate) fn print_totals(rt: &impl Print, tally: Tally) {
-    let Tally {
-        readings,
-        agree,
-        differ,
-        damaged,
-        line: _,
-    } = tally;
-    let _ = println!(rt;
-        "{readings} readings, {agree} lines agree, {differ} differ, {damaged} damaged"
-    );
 }

@@ -1,22 +1,18 @@
--- A line's length and its spaces.
+-- A line of the right length, with its spaces, by the numbers between them.
 use mathlib.Core.Path.{◌≡◌}
-use mathlib.Core.Bool.{true, false}
+use mathlib.Core.Bool.{true}
 use mathlib.Core.List.{List}
 use Prim.Native.Nat.{ℕ}
 use lib.ListN.{length}
-use borrow.Author.Tests.{eq-eqb, ne_eqb}
-use Rattle.test_vector_lines.specs.Line.{line_of, spaced_of, fields_of}
-use Rattle.test_vector_lines.specs.declared.line.Line.TheVariants.{Damaged}
+use borrow.Author.Tests.{eq-eqb}
+use Rattle.std.specs.Prelude.{Option, slice_range}
+use Rattle.test_vector_lines.specs.Hex.{hex_number}
+use Rattle.test_vector_lines.specs.Line.{line_of, spaced_of, whole_of}
 
-pub other_length : (line : List ℕ) → (length line ≡ 59 → ⊥) → Damaged ≡ line_of line
+pub spaced :
+    (line : List ℕ) (word rs1 rs2 res : Option ℕ) → length line ≡ 59 → spaced_of line ≡ true →
+    word ≡ hex_number (slice_range line 0 8) → rs1 ≡ hex_number (slice_range line 9 25) →
+    rs2 ≡ hex_number (slice_range line 26 42) →
+    res ≡ hex_number (slice_range line 43 59) → whole_of word rs1 rs2 res ≡ line_of line
 unfolding line_of
-other_length line n = rw (ne_eqb (length line) 59 n)
-
-module _ (line : List ℕ) (long : length line ≡ 59) where
-  pub unspaced : spaced_of line ≡ false → Damaged ≡ line_of line
-  unfolding line_of
-  unspaced e = rw (eq-eqb (length line) 59 long, e)
-
-  pub spaced : spaced_of line ≡ true → fields_of line ≡ line_of line
-  unfolding line_of
-  spaced e = rw (eq-eqb (length line) 59 long, e)
+spaced line word rs1 rs2 res long e w x y z = rw (eq-eqb (length line) 59 long, e, w, x, y, z)

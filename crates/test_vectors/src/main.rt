@@ -6,13 +6,13 @@ use failures::Failure;
 use std::env::FillError;
 use std::fs::File;
 use std::rt::{Env, Files};
-use std::str;
+use std::{io, str};
 use tally::Tally;
 
 // What a word computes for the values of x6 and x7.
 mod execution;
 
-// What is printed of a line that fails.
+// What is printed of a line that differs.
 mod report;
 
 // A line checked and counted.
@@ -21,46 +21,47 @@ mod tally;
 // The lines of a file that is read in pieces.
 mod file;
 
-fn check_path(rt: &(impl Files + Print + Eprint), path: &str, tally: Tally) -> Tally {
-    let mut file = match File::open(rt, path) {
-        Ok(file) => file,
-        Err(error) => {
-            let _ = eprintln!(rt; "{path}: {}", Failure(error));
-            return tally.with_damage();
-        }
-    };
+fn check_file(rt: &(impl Files + Print), path: &str, tally: &mut Tally) -> io::Result<()> {
+    let mut file = File::open(rt, path)?;
     let _ = println!(rt; "{path}");
-    file::check_file(rt, &mut file, path, tally)
+    file::check_lines(rt, &mut file, tally)
+}
+
+fn check_path(rt: &(impl Files + Print + Eprint), path: &str, tally: &mut Tally) {
+    if let Err(error) = check_file(rt, path, tally) {
+        let _ = eprintln!(rt; "{path}: {}", Failure(error));
+        tally.add_damage();
+    }
 }
 
 // An argument that names no file.
-fn unnamed(rt: &impl Eprint, why: &str, tally: Tally) -> Tally {
+fn unnamed(rt: &impl Eprint, why: &str, tally: &mut Tally) {
     let _ = eprintln!(rt; "path: {why}");
-    tally.with_damage()
+    tally.add_damage();
 }
 
-fn check_argument(rt: &(impl Files + Print + Eprint), path: &[u8], tally: Tally) -> Tally {
+fn check_argument(rt: &(impl Files + Print + Eprint), path: &[u8], tally: &mut Tally) {
     match str::from_utf8(path) {
         Ok(path) => check_path(rt, path, tally),
         Err(_) => unnamed(rt, "Not UTF-8", tally),
     }
 }
 
-// The first argument has to be there.
+// The first argument has to be there. With no heap each is read into a buffer.
 fn main(rt: HostRuntime) {
-    let mut tally = Tally::new();
+    let mut tally = Tally::default();
     for i in 1..usize::MAX {
         let mut path = [0u8; 4096];
         match rt.arg(i, &mut path) {
-            Ok(length) => tally = check_argument(&rt, &path[..length], tally),
-            Err(FillError::TooLong) => tally = unnamed(&rt, "File name too long", tally),
+            Ok(length) => check_argument(&rt, &path[..length], &mut tally),
+            Err(FillError::TooLong) => unnamed(&rt, "File name too long", &mut tally),
             Err(FillError::NotPresent) => {
                 if i == 1 {
-                    tally = unnamed(&rt, "Invalid argument", tally);
+                    unnamed(&rt, "Invalid argument", &mut tally);
                 }
                 break;
             }
         }
     }
-    tally.print(&rt);
+    let _ = println!(rt; "{tally}");
 }

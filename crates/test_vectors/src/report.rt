@@ -1,13 +1,18 @@
-pub(crate) fn difference(rt: &impl Print, number: u64, res: u64, got: u64) {
-    let _ = println!(rt; "line {number}: expected {res:016x}, got {got:016x}");
+use std::fmt;
+
+// A line's result, and what its word computes instead, if anything.
+#[derive(Drop)]
+pub(crate) struct Difference {
+    pub(crate) expected: u64,
+    pub(crate) got: Option<u64>,
 }
 
-pub(crate) fn other(rt: &impl Print, number: u64, res: u64) {
-    let _ = println!(rt;
-        "line {number}: expected {res:016x}, got no operation from x6 and x7 to x5"
-    );
-}
-
-pub(crate) fn damaged(rt: &impl Print, number: u64) {
-    let _ = println!(rt; "line {number}: damaged");
+impl fmt::Display for Difference {
+    fn fmt<W: fmt::Write>(&self, f: &mut fmt::Formatter<W>) -> fmt::Result {
+        write!(f, "expected {:016x}, got ", self.expected)?;
+        match self.got {
+            Some(got) => write!(f, "{got:016x}"),
+            None => f.write_str("no operation from x6 and x7 to x5"),
+        }
+    }
 }

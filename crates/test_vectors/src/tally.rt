@@ -1,9 +1,11 @@
-use crate::execution::{Execution, execute};
-use crate::report;
-use test_vector_lines::line::{Line, TestVector, line_of};
+use crate::execution::execute;
+use crate::report::Difference;
+use std::fmt;
+use test_vector_lines::line::line_of;
 
-// How many lines of a file there were, and of all files of each kind.
-#[derive(Clone, Copy)]
+// How many lines of a file there were, and of all files of each kind. A count stays at the largest
+// number, which no file reaches.
+#[derive(Clone, Copy, Default)]
 pub struct Tally {
     pub lines: u64,
     pub agree: u64,
@@ -11,75 +13,42 @@ pub struct Tally {
     pub damaged: u64,
 }
 
-// A count stays at the largest number, which no file reaches.
-fn one_more(n: u64) -> u64 {
-    if n < u64::MAX { n + 1 } else { n }
-}
-
-// Whether the word computes the result; said where it does not.
-fn agrees(rt: &impl Print, number: u64, vector: TestVector) -> bool {
-    match execute(vector.word, vector.rs1, vector.rs2) {
-        Execution::Result(got) => {
-            if got == vector.result {
-                return true;
-            }
-            report::difference(rt, number, vector.result, got);
-            false
-        }
-        Execution::Other => {
-            report::other(rt, number, vector.result);
-            false
-        }
-    }
-}
-
 impl Tally {
-    pub(crate) fn new() -> Tally {
-        Tally {
-            lines: 0,
-            agree: 0,
-            differ: 0,
-            damaged: 0,
-        }
-    }
-
-    // At the start of a file.
-    pub(crate) fn with_file(mut self) -> Tally {
-        self.lines = 0;
-        self
-    }
-
     // A damaged line, or a file that can't be read to its end.
-    pub(crate) fn with_damage(mut self) -> Tally {
-        self.damaged = one_more(self.damaged);
-        self
+    pub(crate) fn add_damage(&mut self) {
+        self.damaged = self.damaged.saturating_add(1);
     }
 
-    pub(crate) fn with_line(mut self, rt: &impl Print, line: &[u8]) -> Tally {
-        self.lines = one_more(self.lines);
-        match line_of(line) {
-            Line::Whole(vector) => {
-                if agrees(rt, self.lines, vector) {
-                    self.agree = one_more(self.agree);
-                    return self;
-                }
-                self.differ = one_more(self.differ);
-                self
-            }
-            Line::Damaged => {
-                report::damaged(rt, self.lines);
-                self.with_damage()
-            }
+    // A line's word computed and compared with its result; said where they differ.
+    pub(crate) fn add_line(&mut self, rt: &impl Print, line: &[u8]) {
+        self.lines = self.lines.saturating_add(1);
+        let Some(vector) = line_of(line) else {
+            let _ = println!(rt; "line {}: damaged", self.lines);
+            self.add_damage();
+            return;
+        };
+        let expected = vector.result;
+        let got = execute(vector.word, vector.rs1, vector.rs2);
+        if got == Some(expected) {
+            self.agree = self.agree.saturating_add(1);
+        } else {
+            let _ = println!(rt; "line {}: {}", self.lines, Difference { expected, got });
+            self.differ = self.differ.saturating_add(1);
         }
     }
+}
 
-    pub(crate) fn print(self, rt: &impl Print) {
+impl fmt::Display for Tally {
+    fn fmt<W: fmt::Write>(&self, f: &mut fmt::Formatter<W>) -> fmt::Result {
         let Tally {
             lines: _,
             agree,
             differ,
             damaged,
-        } = self;
-        let _ = println!(rt; "vectors: {agree} agree, {differ} differ, {damaged} damaged");
+        } = *self;
+        write!(
+            f,
+            "vectors: {agree} agree, {differ} differ, {damaged} damaged"
+        )
     }
 }
