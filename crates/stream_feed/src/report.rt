@@ -1,9 +1,8 @@
-ghost use Rattle.std.specs.Prelude.{◌+◌, ◌≤◌, ◌≡◌, length};
+ghost use Rattle.std.specs.Prelude.{◌+◌, ◌≤◌, length};
 ghost use Rattle.stream_text.specs.Put.{Put};
-ghost use Rattle.stream_feed.specs.Apply.{setting_text, is_run, report_text};
+ghost use Rattle.stream_feed.specs.Apply.{setting_text, report_text};
 
 use answers::Answer;
-use stream_records::record::Record;
 use stream_text::lines::{put_refused, put_run};
 
 #[tactic(auto, unfolding(crate::specs::Apply::setting_text, answers::specs::Answer::accepts))]
@@ -16,19 +15,6 @@ fn put_setting(out: &mut [u8], at: usize, answer: Answer) -> usize
         return at;
     }
     put_refused(out, at, number)
-}
-
-pub(crate) fn is_run(record: Record) -> bool
-    ensures { result ≡ is_run «record» }
-{
-    match record {
-        Record::RegisterEntry(_, _) => false,
-        Record::PredicateEntry(_, _) => false,
-        Record::StateWord(_) => false,
-        Record::Register(_, _) => false,
-        Record::Run(_, _) => true,
-        Record::Memory(_, _) => false,
-    }
 }
 
 // The line of a record that was applied, if it has one.
