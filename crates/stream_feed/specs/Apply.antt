@@ -51,6 +51,12 @@ is_run _ = false
 unfoldable pub report_text : Bool → Answer → ℕ → ℕ → ℕ → List ℕ
 report_text is_run a pc source destination = cond is_run (run_line (number_of a) pc source destination) (setting_text a)
 
+-- the same of what a call replied
+abbrev pub reported : Bool → Reply → List ℕ
+reported is_run r =
+    let m = r.machine in
+    report_text is_run r.answer m.pc m.state.source m.state.destination
+
 -- the text of a record, from what it answered and left
 abbrev pub printed : Record → Outcome Answer System → List ℕ
 printed r o =

@@ -53,33 +53,22 @@ fn apply_and_print(
     ensures { Applying machine.old «record» memory.old out.old at machine.new memory.new out.new result }
 {
     let reply = apply(*machine, record, memory);
-    let after = reply.machine;
-    *machine = after;
-    put_report(
-        out,
-        at,
-        matches!(record, Record::Run(..)),
-        reply.answer,
-        after.pc,
-        after.state.source,
-        after.state.destination,
-    )
+    *machine = reply.machine;
+    put_report(out, at, matches!(record, Record::Run(..)), reply)
 }
 
 // Record after record: each search goes on from the end of the record before.
 fn feed_accepted(
-    start: Reader,
-    first: Machine,
+    mut reader: Reader,
+    mut machine: Machine,
     piece: &[u8],
     memory: &mut [u8],
     out: &mut [u8],
 ) -> Fed
-    requires { acceptable start (length piece.now) (length out.old) ≡ true }
-    ensures { feed_result start first (Ok result) memory.new out.new
-        ≡ fed_accepted start first piece.now memory.old out.old }
+    requires { acceptable reader (length piece.now) (length out.old) ≡ true }
+    ensures { feed_result reader machine (Ok result) memory.new out.new
+        ≡ fed_accepted reader machine piece.now memory.old out.old }
 {
-    let mut reader = start;
-    let mut machine = first;
     let mut i = 0;
     let mut written = 0;
     loop {

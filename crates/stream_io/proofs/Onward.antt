@@ -5,25 +5,22 @@ use mathlib.Core.Path.{◌≡◌, refl, sym, ap, ◌∙◌}
 use mathlib.Core.Bool.{true, false}
 use mathlib.Core.List.{List, [], ◌++◌}
 use lib.Dec.{leb}
-use lib.ListN.{length, take, drop, replicate, length-append}
+use lib.ListN.{length, take, drop, length-append}
 use lib.Seq.{length-take-le, drop-append_seam}
 use Rattle.std.specs.Prelude.{Result, Ok}
 use Rattle.machine.specs.declared.Machine.{Machine}
-use Rattle.machine.specs.Shape.{fresh_machine}
 use Rattle.stream_records.specs.declared.reader.Reader.{Reader}
-use Rattle.stream_records.specs.Reader.{fresh_reader, progress_of}
+use Rattle.stream_records.specs.Reader.{progress_of}
 use Rattle.stream_feed.specs.Stream.{Stream, Fed, fed, last_text, finished, fresh_stream, output}
-use Rattle.stream_feed.specs.Feed.{stream_of, text_out, last_room, finished_into}
+use Rattle.stream_feed.specs.Feed.{text_out, last_room, finished_into}
 use Rattle.stream_feed.proofs.Fed.{fed_append}
 use Rattle.stream_feed.proofs.Texts.{Wrote, wrote_within, wrote_text, wrote_if}
-use Rattle.stream_io.specs.Output.{Next, Sends, Whole, Reached}
+use Rattle.stream_io.specs.Output.{Next, Sends, Whole, Reached, SessionReached, fresh_session}
 use Rattle.stream_io.specs.declared.Stopped.{Stopped}
 
-pub begun :
-    (r : Reader) (m : Machine) (memory : List ℕ) → r ≡ fresh_reader → m ≡ fresh_machine → memory ≡ replicate 4096 0 →
-    Reached (stream_of r m memory) 0
+pub begun : SessionReached fresh_session
 unfolding fed
-begun r m memory a b e = rw (a, b, e) (record { bytes = []; stream = refl; text = refl })
+begun = record { bytes = []; stream = refl; text = refl }
 
 -- what the end of a stream left in `out`
 pub wrote_last :

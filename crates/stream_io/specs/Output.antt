@@ -1,7 +1,9 @@
 -- What the runner may write.
-use Rattle.std.specs.Prelude.{ℕ, ◌+◌, ◌≡◌, Bool, cond, List, length, drop, Result, Ok}
+use Rattle.std.specs.Prelude.{ℕ, ◌+◌, ◌≡◌, Bool, cond, List, length, drop, replicate, Result, Ok}
 use Rattle.std.specs.declared.ops.ControlFlow.{ControlFlow}
 use Rattle.std.specs.declared.ops.ControlFlow.TheVariants.{Continue, Break}
+use Rattle.machine.specs.Shape.{fresh_machine}
+use Rattle.stream_records.specs.Reader.{fresh_reader}
 use Rattle.stream_feed.specs.Stream.{Stream, fed, fresh_stream, output}
 use Rattle.stream_feed.specs.Feed.{stream_of}
 use Rattle.stream_io.specs.declared.Stopped.{Stopped}
@@ -27,10 +29,13 @@ pub record Reached (s : Stream) (written : ℕ) : Type 0 where
   pub stream : s ≡ (fed fresh_stream bytes).stream
   pub text : written ≡ length (fed fresh_stream bytes).text
 
-abbrev pub SessionReached : Session → List ℕ → Type 0
-SessionReached s memory = Reached (stream_of s.reader s.machine memory) s.written
+abbrev pub fresh_session : Session
+fresh_session = record { reader = fresh_reader; machine = fresh_machine; memory = replicate 4096 0; written = 0 }
 
--- a turn leads on with the memory that it left, or ends with the whole output
-pub record Turned (t : Result (ControlFlow ℕ (Unit {0})) Stopped) (s : Session) (memory : List ℕ) : Type 0 where
-  pub onward : t ≡ Ok (Continue tt) → SessionReached s memory
+abbrev pub SessionReached : Session → Type 0
+SessionReached s = Reached (stream_of s.reader s.machine s.memory) s.written
+
+-- a turn leads on, or ends with the whole output
+pub record Turned (t : Result (ControlFlow ℕ (Unit {0})) Stopped) (s : Session) : Type 0 where
+  pub onward : t ≡ Ok (Continue tt) → SessionReached s
   pub ended : (n : ℕ) → t ≡ Ok (Break n) → Whole (Ok n)

@@ -1,11 +1,11 @@
 #![tactic(auto)]
 
 // A record stream that is read in pieces, applied to a fresh machine, and what it prints written to standard output.
-ghost use Rattle.std.specs.Prelude.{◌≡◌, length, replicate, OnOk};
+ghost use Rattle.std.specs.Prelude.{◌≡◌, OnOk};
 ghost use Rattle.std.specs.Io.{ReadsAtMost};
 ghost use Rattle.stream_records.specs.Reader.{progress_of};
 ghost use Rattle.stream_feed.specs.Stream.{last_text};
-ghost use Rattle.stream_io.specs.Output.{Next, Sends, Whole, SessionReached, Turned};
+ghost use Rattle.stream_io.specs.Output.{Next, Sends, Whole, fresh_session, SessionReached, Turned};
 
 use failures::Failure;
 use machine::Machine;
@@ -25,6 +25,7 @@ pub struct Stopped;
 pub struct Session {
     pub reader: Reader,
     pub machine: Machine,
+    pub memory: [u8; 4096],
     // How many bytes of the output are written.
     pub written: u64,
 }
@@ -68,10 +69,21 @@ fn say_unread(rt: &impl Eprint, name: &str, error: io::Error) {
 }
 
 impl Session {
+    fn fresh() -> Session
+        ensures { result ≡ fresh_session }
+    {
+        Session {
+            reader: Reader::fresh(),
+            machine: Machine::fresh(),
+            memory: [0; 4096],
+            written: 0,
+        }
+    }
+
     // Writes what the end of the stream prints.
-    fn write_last(self, rt: &(impl Print + Eprint), out: &mut [u8]) -> Result<u64, Stopped>
-        requires { Next self.written (last_text (progress_of self.reader) self.machine.registers) }
-        ensures { Sends self.written (last_text (progress_of self.reader) self.machine.registers) result }
+    fn write_last(&self, rt: &(impl Print + Eprint), out: &mut [u8]) -> Result<u64, Stopped>
+        requires { Next self.now.written (last_text (progress_of self.now.reader) self.now.machine.registers) }
+        ensures { Sends self.now.written (last_text (progress_of self.now.reader) self.now.machine.registers) result }
     {
         let Ok(length) = finish(self.reader, self.machine, out) else {
             return Err(say_no_room(rt));
@@ -84,21 +96,18 @@ impl Session {
         &mut self,
         rt: &(impl Print + Eprint),
         piece: &[u8],
-        memory: &mut [u8],
         out: &mut [u8],
     ) -> Result<(), Stopped>
-        requires { SessionReached self.old memory.old }
-        ensures { OnOk result (SessionReached self.new memory.new) }
+        requires { SessionReached self.old }
+        ensures { OnOk result (SessionReached self.new) }
     {
-        let Ok(fed) = feed(self.reader, self.machine, piece, memory, out) else {
+        let Ok(fed) = feed(self.reader, self.machine, piece, &mut self.memory, out) else {
             return Err(say_no_room(rt));
         };
         let written = write_next(rt, self.written, &out[..fed.written])?;
-        *self = Session {
-            reader: fed.reader,
-            machine: fed.machine,
-            written,
-        };
+        self.reader = fed.reader;
+        self.machine = fed.machine;
+        self.written = written;
         Ok(())
     }
 
@@ -108,11 +117,10 @@ impl Session {
         rt: &(impl Print + Eprint),
         input: &mut impl Read,
         name: &str,
-        memory: &mut [u8],
         out: &mut [u8],
     ) -> Result<ControlFlow<u64>, Stopped>
-        requires { SessionReached self.old memory.old }
-        ensures { Turned result self.new memory.new }
+        requires { SessionReached self.old }
+        ensures { Turned result self.new }
     {
         let mut piece = [0u8; 4096];
         let n = match read_piece(input, self.reader.stopped, &mut piece) {
@@ -126,38 +134,15 @@ impl Session {
             let written = self.write_last(rt, out)?;
             return Ok(ControlFlow::Break(written));
         }
-        self.feed_and_write(rt, &piece[..n], memory, out)?;
+        self.feed_and_write(rt, &piece[..n], out)?;
         Ok(ControlFlow::Continue(()))
     }
 }
 
-// Piece after piece. A proved loop has to end, and nothing says that the input does: so it counts its turns, up to a
-// number that no run reaches.
-fn run(
-    rt: &(impl Print + Eprint),
-    input: &mut impl Read,
-    name: &str,
-    memory: &mut [u8],
-    out: &mut [u8],
-) -> Result<u64, Stopped>
-    requires { memory.old ≡ replicate 4096 0 }
-    ensures { Whole result }
-{
-    let mut session = Session {
-        reader: Reader::fresh(),
-        machine: Machine::fresh(),
-        written: 0,
-    };
-    for _ in 0..u64::MAX {
-        if let ControlFlow::Break(written) = session.take_turn(rt, input, name, memory, out)? {
-            return Ok(written);
-        }
-    }
-    Err(Stopped)
-}
-
 // Runs the stream of an input on a fresh machine with 4,096 zero bytes of memory,
 // and answers how many bytes its output has, if all of it was written. The name says what can't be read.
+// A proved loop has to end, and nothing says that the input does: so it counts its turns, up to a number that no run
+// reaches.
 pub fn run_descriptor(
     rt: &(impl Print + Eprint),
     input: &mut impl Read,
@@ -165,8 +150,13 @@ pub fn run_descriptor(
 ) -> Result<u64, Stopped>
     ensures { Whole result }
 {
-    let mut memory = [0u8; 4096];
+    let mut session = Session::fresh();
     // What a piece of 4,096 bytes may print.
     let mut out = [0u8; 57484];
-    run(rt, input, name, &mut memory, &mut out)
+    for _ in 0..u64::MAX {
+        if let ControlFlow::Break(written) = session.take_turn(rt, input, name, &mut out)? {
+            return Ok(written);
+        }
+    }
+    Err(Stopped)
 }

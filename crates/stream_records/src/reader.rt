@@ -80,23 +80,22 @@ impl Reader {
     }
 
     // Takes the bytes of a piece from a place on, up to the end of a record or of the piece.
-    pub fn find(self, piece: &[u8], from: usize) -> Found
+    pub fn find(mut self, piece: &[u8], from: usize) -> Found
         requires { Ready self (length piece.now - from) }
         ensures { Finding self piece.now from result }
     {
-        let mut reader = self;
         for i in from..piece.len() {
-            if let Some(record) = reader.take(piece[i]) {
+            if let Some(record) = self.take(piece[i]) {
                 return Found {
                     whole: Some(record),
-                    reader,
+                    reader: self,
                     at: i + 1,
                 };
             }
         }
         Found {
             whole: None,
-            reader,
+            reader: self,
             at: piece.len(),
         }
     }

@@ -24,7 +24,7 @@ loop-i-preserved c =
 
 pub returns : goal.returns
 returns c = record {
-  same = found_none c.loop-i.reader _ _ c.loop-i-test.false ∙ c.loop-i.invariant.same;
+  same = found_none c.loop-i.self _ _ c.loop-i-test.false ∙ c.loop-i.invariant.same;
   sized = c.loop-i.invariant.sized;
   short = c.loop-i.invariant.short;
   reached = omega (arith, c.loop-i.invariant.reached);

@@ -1,5 +1,0 @@
-use Rattle.stream_io.specs.Output.{SessionReached}
-use Rattle.stream_io.proofs.run.Given as goal
-
-abbrev pub invariant-loop : goal.invariant-loop
-invariant-loop g l = SessionReached l.session l.memory
