@@ -33,12 +33,12 @@ use Rattle.machine.specs.Shape.{in_shape, room_in_shape, tables_in_shape}
 use Rattle.machine.specs.Setting.{set_state_word, set_register_entry, set_register}
 use Rattle.machine.specs.Run.{prepare, unit, run}
 use Rattle.memory.specs.Transfer.{store_answer, stored}
-use Rattle.stream_records.specs.Record.{layouts, layout_of, served_layout, record_of, body_at, next_record}
+use Rattle.stream_records.specs.Record.{served_kind, body_at, next_record}
 use Rattle.stream_records.specs.Progress.{taken}
 use Rattle.stream_text.specs.Decimal.{digits, decimal}
 use Rattle.stream_text.specs.Lines.{run_line, refused_line, bad_record_line, register_line, nonzero_line, lines_below}
 use Rattle.stream_feed.specs.Apply.{applied, setting_text, report_text}
-use Rattle.stream_feed.specs.Stream.{fed_event, fed, bad_text, output}
+use Rattle.stream_feed.specs.Stream.{fed_record, fed, bad_text, output}
 use Rattle.claims_streams.specs.Example.{example_bytes, example_text, Outputs}
 
 pub outputs : Outputs
@@ -48,9 +48,9 @@ unfolding accepts pauses verdict written computed sign_extended enabled_range cl
     pair_from walk begun element_of registers_after go_on after_on position_after operation_unit pair_of after_pair after_transfer
     at_pair transfer_unit move_element move_unit address_at load_element load_unit all default_width fitting checked_operands
     operation_plan move_plan load_plan served prepared in_shape room_in_shape tables_in_shape set_state_word set_register_entry
-    set_register prepare unit run store_answer stored layouts layout_of served_layout record_of body_at next_record taken
+    set_register prepare unit run store_answer stored served_kind body_at next_record taken
     digits decimal run_line refused_line bad_record_line register_line nonzero_line lines_below applied setting_text
-    report_text fed_event fed bad_text output example_bytes example_text
+    report_text fed_record fed bad_text output example_bytes example_text
 outputs = record {
   example = refl;
   empty = refl;

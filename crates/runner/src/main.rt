@@ -3,5 +3,5 @@
 // Applies the record stream of standard input to a fresh machine, and writes what it prints to standard output.
 fn main(rt: HostRuntime) {
     let mut input = rt.stdin();
-    stream_io::run_descriptor(&rt, &mut input, "standard input");
+    let _ = stream_io::run_descriptor(&rt, &mut input, "standard input");
 }

@@ -13,11 +13,9 @@ use Rattle.stream_records.specs.Reader.{progress_of, Finding}
 use Rattle.stream_records.proofs.Reaching.{found_far}
 use Rattle.stream_text.specs.Put.{Put}
 use Rattle.stream_text.proofs.Puts.{put_none, put_join, put_length, put_over, put_next}
-use Rattle.stream_feed.specs.declared.feed.Text.TheVariants.{Written}
-use Rattle.stream_feed.specs.declared.feed.Applied.{Applied}
 use Rattle.stream_feed.specs.Feed.{over, text_out, feed_with, stream_of, fed_accepted, Applying}
 use Rattle.stream_feed.proofs.Accepting.{Accepted}
-use Rattle.stream_records.specs.declared.reader.Event.TheVariants.{Whole, Nothing}
+use Rattle.std.specs.Prelude.{Some, None, Ok}
 use Rattle.stream_records.specs.declared.record.Record.{Record}
 use Rattle.stream_records.specs.Progress.{Progress, Search}
 use Rattle.stream_feed.specs.Apply.{applied, printed}
@@ -27,7 +25,7 @@ use Rattle.stream_feed.proofs.Fed.{feed_none, feed_whole, after_more, after_last
 -- the text of the end, put from the start on
 pub finish_written :
     {old new text : List ℕ} {next : ℕ} → Put old 0 text new next → next ≤ length old →
-    text_out (Written next) new ≡ text_out (Written (length text)) (over text old)
+    text_out (Ok next) new ≡ text_out (Ok (length text)) (over text old)
 finish_written p h = rw (put_next p, put_over p (omega (arith, put_next p)))
 
 -- what the loop over the records of a piece keeps
@@ -80,11 +78,11 @@ module _ (piece memory₀ out₀ : List ℕ) (reader₀ : Reader) (machine₀ : 
       rest = drop f.at piece
 
       -- a record moves the offset
-      module _ (w : Record) (whole : f.event ≡ Whole w) where
+      module _ (w : Record) (whole : f.whole ≡ Some w) where
         pub moved : reader.offset + 4 ≤ f.reader.offset
         moved =
             rw (← finding.same) at
-            (found_far (progress_of reader) bytes w (ap (λ (s : Search). s.event) (sym finding.same) ∙ whole))
+            (found_far (progress_of reader) bytes w (ap (λ (s : Search). s.whole) (sym finding.same) ∙ whole))
 
         pub falls :
             reader₀.offset + reader₀.length + length piece - f.reader.offset
@@ -98,10 +96,10 @@ module _ (piece memory₀ out₀ : List ℕ) (reader₀ : Reader) (machine₀ : 
             omega (arith, moved, finding.reached, p.reached, p.room, p.onward, p.accepts.short)
 
         pub stepped :
-            {memory' out' : List ℕ} (a : Applied) → Applying machine w memory out at a memory' out' →
-            length memory' ≡ length memory →
-            FedSoFar piece memory₀ out₀ reader₀ machine₀ memory' out' f.reader a.machine f.at a.at
-        stepped a applying kept = record {
+            {memory' out' : List ℕ} {machine' : Machine} {next : ℕ} →
+            Applying machine w memory out at machine' memory' out' next → length memory' ≡ length memory →
+            FedSoFar piece memory₀ out₀ reader₀ machine₀ memory' out' f.reader machine' f.at next
+        stepped applying kept = record {
           accepts = p.accepts;
           done = p.done ++ printed w (applied w s);
           short = finding.short;
@@ -118,8 +116,8 @@ module _ (piece memory₀ out₀ : List ℕ) (reader₀ : Reader) (machine₀ : 
         }
 
       pub ended :
-          f.event ≡ Nothing →
-          feed_with (Written at) (stream_of f.reader machine memory) f.reader.length out
+          f.whole ≡ None →
+          feed_with (Ok at) (stream_of f.reader machine memory) f.reader.length out
           ≡ fed_accepted reader₀ machine₀ piece memory₀ out₀
       unfolding fed_accepted
       ended none =

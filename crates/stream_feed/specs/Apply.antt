@@ -44,16 +44,18 @@ unfoldable pub setting_text : Answer → List ℕ
 setting_text a = cond (accepts a) [] (refused_line (number_of a))
 
 abbrev pub is_run : Record → Bool
-is_run (RegisterEntry i entry) = false
-is_run (PredicateEntry i entry) = false
-is_run (StateWord word) = false
-is_run (Register i value) = false
 is_run (Run word allowance) = true
-is_run (Memory address value) = false
+is_run _ = false
 
 -- For a run answer, program counter, source and destination offset, whatever the answer.
 unfoldable pub report_text : Bool → Answer → ℕ → ℕ → ℕ → List ℕ
 report_text is_run a pc source destination = cond is_run (run_line (number_of a) pc source destination) (setting_text a)
+
+-- the same of what a call replied
+abbrev pub reported : Bool → Reply → List ℕ
+reported is_run r =
+    let m = r.machine in
+    report_text is_run r.answer m.pc m.state.source m.state.destination
 
 -- the text of a record, from what it answered and left
 abbrev pub printed : Record → Outcome Answer System → List ℕ

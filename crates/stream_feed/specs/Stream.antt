@@ -1,9 +1,9 @@
 -- A whole stream: bytes in, text out.
+use Rattle.std.specs.Prelude.{Option, Some, None}
 use Rattle.std.specs.Prelude.{ℕ, true, false, cond, ◌||◌, List, [], ◌∷◌, ◌++◌, ltb, length, replicate}
 use Rattle.machine.specs.Shape.{fresh_machine}
 use Rattle.machine.specs.Run.{System, system}
-use Rattle.stream_records.specs.declared.reader.Event.{Event}
-use Rattle.stream_records.specs.declared.reader.Event.TheVariants.{Whole, Nothing}
+use Rattle.stream_records.specs.declared.record.Record.{Record}
 use Rattle.stream_records.specs.Progress.{Progress, progress, Advance, taken}
 use Rattle.stream_text.specs.Lines.{bad_record_line, lines_below}
 use Rattle.stream_feed.specs.Apply.{applied, printed}
@@ -25,12 +25,12 @@ abbrev pub fed_with : List ℕ → Stream → Fed
 fed_with text s = record { text = text; stream = s }
 
 -- a record that ended is applied and printed
-unfoldable pub fed_event : Event → Progress → System → Fed
-fed_event (Whole r) at s = let done = applied r s in fed_with (printed r done) (stream at done.state)
-fed_event Nothing at s = fed_with [] (stream at s)
+unfoldable pub fed_record : Option Record → Progress → System → Fed
+fed_record (Some r) at s = let done = applied r s in fed_with (printed r done) (stream at done.state)
+fed_record None at s = fed_with [] (stream at s)
 
 abbrev pub fed_advance : Advance → System → Fed
-fed_advance a s = fed_event a.event a.progress s
+fed_advance a s = fed_record a.whole a.progress s
 
 -- text before what is printed later
 abbrev pub after : List ℕ → Fed → Fed

@@ -2,31 +2,21 @@ ghost use Rattle.std.specs.Prelude.{◌≡◌, true, ◌+◌, ◌≤◌, length}
 ghost use Rattle.stream_feed.specs.Feed.{acceptable, Applying, fed_into, feed_result, fed_accepted};
 
 use crate::apply::apply;
-use crate::report::{is_run, put_report};
+use crate::report::put_report;
 use machine::Machine;
-use stream_records::reader::{Event, Reader};
+use stream_records::reader::Reader;
 use stream_records::record::Record;
 
-#[derive(Clone, Copy)]
-pub enum Text {
-    // How many bytes were written.
-    Written(usize),
-    // Nothing was done, since the text might not fit.
-    NoRoom,
-}
+// Nothing was done, since the text might not fit.
+#[derive(Clone, Copy, Debug, PartialEq, Eq)]
+pub struct NoRoom;
 
-// What was written, and the reader and the machine after it.
+// How many bytes were written, and the reader and the machine after them.
 #[derive(Clone, Copy)]
 pub struct Fed {
-    pub text: Text,
+    pub written: usize,
     pub reader: Reader,
     pub machine: Machine,
-}
-
-#[derive(Clone, Copy)]
-pub struct Applied {
-    machine: Machine,
-    at: usize,
 }
 
 // Whether a reader can take so many bytes, and so much room holds all that
@@ -51,65 +41,48 @@ fn acceptable(reader: Reader, bytes: usize, room: usize) -> bool
     bytes <= (room - 140) / 14
 }
 
-// A record applied and printed.
+// A record applied and printed: the place after its text.
 fn apply_and_print(
-    machine: Machine,
+    machine: &mut Machine,
     record: Record,
     memory: &mut [u8],
     out: &mut [u8],
     at: usize,
-) -> Applied
+) -> usize
     requires { at + 54 ≤ length out.old }
-    ensures { Applying machine «record» memory.old out.old at result memory.new out.new }
+    ensures { Applying machine.old «record» memory.old out.old at machine.new memory.new out.new result }
 {
-    let reply = apply(machine, record, memory);
-    let answer = reply.answer;
-    let after = reply.machine;
-    let next = put_report(
-        out,
-        at,
-        is_run(record),
-        answer,
-        after.pc,
-        after.state.source,
-        after.state.destination,
-    );
-    Applied {
-        machine: after,
-        at: next,
-    }
+    let reply = apply(*machine, record, memory);
+    *machine = reply.machine;
+    put_report(out, at, matches!(record, Record::Run(..)), reply)
 }
 
+// Record after record: each search goes on from the end of the record before.
 fn feed_accepted(
-    start: Reader,
-    first: Machine,
+    mut reader: Reader,
+    mut machine: Machine,
     piece: &[u8],
     memory: &mut [u8],
     out: &mut [u8],
 ) -> Fed
-    requires { acceptable start (length piece.now) (length out.old) ≡ true }
-    ensures { feed_result result memory.new out.new
-        ≡ fed_accepted start first piece.now memory.old out.old }
+    requires { acceptable reader (length piece.now) (length out.old) ≡ true }
+    ensures { feed_result reader machine (Ok result) memory.new out.new
+        ≡ fed_accepted reader machine piece.now memory.old out.old }
 {
-    let mut reader = start;
-    let mut machine = first;
-    let mut i: usize = 0;
-    let mut at: usize = 0;
+    let mut i = 0;
+    let mut written = 0;
     loop {
         let found = reader.find(piece, i);
         reader = found.reader;
         i = found.at;
-        let event = found.event;
-        let Event::Whole(record) = event else {
+        let Some(record) = found.whole else {
             return Fed {
-                text: Text::Written(at),
+                written,
                 reader,
                 machine,
             };
         };
-        let applied = apply_and_print(machine, record, memory, out, at);
-        machine = applied.machine;
-        at = applied.at;
+        written = apply_and_print(&mut machine, record, memory, out, written);
     }
 }
 
@@ -122,16 +95,12 @@ pub fn feed(
     piece: &[u8],
     memory: &mut [u8],
     out: &mut [u8],
-) -> Fed
-    ensures { feed_result result memory.new out.new
+) -> Result<Fed, NoRoom>
+    ensures { feed_result reader machine result memory.new out.new
         ≡ fed_into reader machine piece.now memory.old out.old }
 {
-    if acceptable(reader, piece.len(), out.len()) {
-        return feed_accepted(reader, machine, piece, memory, out);
+    if !acceptable(reader, piece.len(), out.len()) {
+        return Err(NoRoom);
     }
-    Fed {
-        text: Text::NoRoom,
-        reader,
-        machine,
-    }
+    Ok(feed_accepted(reader, machine, piece, memory, out))
 }

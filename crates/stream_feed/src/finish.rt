@@ -4,7 +4,7 @@ ghost use Rattle.stream_text.specs.Put.{Put};
 ghost use Rattle.stream_feed.specs.Stream.{bad_text};
 ghost use Rattle.stream_feed.specs.Feed.{text_out, finished_into};
 
-use crate::feed::Text;
+use crate::feed::NoRoom;
 use machine::Machine;
 use stream_records::reader::Reader;
 use stream_text::lines::{put_bad_record, put_registers};
@@ -25,13 +25,12 @@ pub const LAST_ROOM: usize = 3363;
 // At the end of a stream, writes what it prints last. It is refused, and
 // nothing is written, where `out` might be too short.
 #[tactic(auto, unfolding(crate::specs::Feed::finished_into))]
-pub fn finish(reader: Reader, machine: Machine, out: &mut [u8]) -> Text
+pub fn finish(reader: Reader, machine: Machine, out: &mut [u8]) -> Result<usize, NoRoom>
     ensures { text_out result out.new ≡ finished_into reader machine out.old }
 {
     if out.len() < LAST_ROOM {
-        return Text::NoRoom;
+        return Err(NoRoom);
     }
     let at = put_bad(out, reader);
-    let registers = machine.registers;
-    Text::Written(put_registers(out, at, &registers))
+    Ok(put_registers(out, at, &machine.registers))
 }

@@ -1,9 +1,9 @@
-ghost use Rattle.std.specs.Prelude.{◌+◌, ◌≤◌, ◌≡◌, length};
+ghost use Rattle.std.specs.Prelude.{◌+◌, ◌≤◌, length};
 ghost use Rattle.stream_text.specs.Put.{Put};
-ghost use Rattle.stream_feed.specs.Apply.{setting_text, is_run, report_text};
+ghost use Rattle.stream_feed.specs.Apply.{setting_text, reported};
 
 use answers::Answer;
-use stream_records::record::Record;
+use machine::Reply;
 use stream_text::lines::{put_refused, put_run};
 
 #[tactic(auto, unfolding(crate::specs::Apply::setting_text, answers::specs::Answer::accepts))]
@@ -18,35 +18,22 @@ fn put_setting(out: &mut [u8], at: usize, answer: Answer) -> usize
     put_refused(out, at, number)
 }
 
-pub(crate) fn is_run(record: Record) -> bool
-    ensures { result ≡ is_run «record» }
-{
-    match record {
-        Record::RegisterEntry(_, _) => false,
-        Record::PredicateEntry(_, _) => false,
-        Record::StateWord(_) => false,
-        Record::Register(_, _) => false,
-        Record::Run(_, _) => true,
-        Record::Memory(_, _) => false,
-    }
-}
-
 // The line of a record that was applied, if it has one.
 #[tactic(auto, unfolding(crate::specs::Apply::report_text))]
-pub(crate) fn put_report(
-    out: &mut [u8],
-    at: usize,
-    run: bool,
-    answer: Answer,
-    pc: u64,
-    source: u32,
-    destination: u32,
-) -> usize
+pub(crate) fn put_report(out: &mut [u8], at: usize, run: bool, reply: Reply) -> usize
     requires { at + 54 ≤ length out.old }
-    ensures { Put out.old at (report_text run answer pc source destination) out.new result × (result ≤ at + 54) }
+    ensures { Put out.old at (reported run reply) out.new result × (result ≤ at + 54) }
 {
+    let machine = reply.machine;
     if run {
-        return put_run(out, at, answer.number(), pc, source, destination);
+        return put_run(
+            out,
+            at,
+            reply.answer.number(),
+            machine.pc,
+            machine.state.source,
+            machine.state.destination,
+        );
     }
-    put_setting(out, at, answer)
+    put_setting(out, at, reply.answer)
 }

@@ -1,12 +1,13 @@
 -- What the runner may write.
-use Rattle.std.specs.Prelude.{ℕ, ◌-◌, ◌≤◌, ◌≡◌, Bool, true, false, cond, List, length, take, drop}
-use Rattle.stream_feed.specs.declared.feed.Text.{Text}
-use Rattle.stream_feed.specs.declared.feed.Text.TheVariants.{Written}
+use Rattle.std.specs.Prelude.{ℕ, ◌+◌, ◌≡◌, Bool, cond, List, length, drop, replicate, Result, Ok}
+use Rattle.std.specs.declared.ops.ControlFlow.{ControlFlow}
+use Rattle.std.specs.declared.ops.ControlFlow.TheVariants.{Continue, Break}
+use Rattle.machine.specs.Shape.{fresh_machine}
+use Rattle.stream_records.specs.Reader.{fresh_reader}
 use Rattle.stream_feed.specs.Stream.{Stream, fed, fresh_stream, output}
 use Rattle.stream_feed.specs.Feed.{stream_of}
-use Rattle.stream_io.specs.declared.Sent.{Sent}
-use Rattle.stream_io.specs.declared.Sent.TheVariants.{Upto}
-use Rattle.stream_io.specs.declared.Turn.{Turn}
+use Rattle.stream_io.specs.declared.Stopped.{Stopped}
+use Rattle.stream_io.specs.declared.Session.{Session}
 
 -- The text is what some bytes of a stream print from a place on: so far, or in all, when no more follow.
 pub record Next (written : ℕ) (text : List ℕ) : Type 0 where
@@ -14,17 +15,13 @@ pub record Next (written : ℕ) (text : List ℕ) : Type 0 where
   pub ended : Bool
   pub same : text ≡ drop written (cond ended (output bytes) (fed fresh_stream bytes).text)
 
--- the text that a call left in `out`, if it left one
-pub record Holds (written : ℕ) (t : Text) (out : List ℕ) : Type 0 where
-  pub text : (n : ℕ) → t ≡ Written n → (n ≤ length out) × Next written (take n out)
-
--- so many bytes more are written, or no more can be
-pub record Sends (written : ℕ) (t : Text) (s : Sent) : Type 0 where
-  pub upto : (n : ℕ) → s ≡ Upto n → (written ≤ n) × (t ≡ Written (n - written))
+-- the text is written after so many bytes, or no more can be
+pub record Sends (written : ℕ) (text : List ℕ) (s : Result ℕ Stopped) : Type 0 where
+  pub count : (n : ℕ) → s ≡ Ok n → n ≡ written + length text
 
 -- a number that is answered at the end counts the output of some bytes, whole
-pub record Whole (s : Sent) : Type 0 where
-  pub all : (n : ℕ) → s ≡ Upto n → (bytes : List ℕ) × (n ≡ length (output bytes))
+pub record Whole (s : Result ℕ Stopped) : Type 0 where
+  pub all : (n : ℕ) → s ≡ Ok n → (bytes : List ℕ) × (n ≡ length (output bytes))
 
 -- Some bytes lead from the fresh stream to this one, and all that they print is written.
 pub record Reached (s : Stream) (written : ℕ) : Type 0 where
@@ -32,7 +29,13 @@ pub record Reached (s : Stream) (written : ℕ) : Type 0 where
   pub stream : s ≡ (fed fresh_stream bytes).stream
   pub text : written ≡ length (fed fresh_stream bytes).text
 
--- a turn leads on with the memory that it left, or ends with the whole output
-pub record Turned (t : Turn) (memory : List ℕ) : Type 0 where
-  pub onward : t.last ≡ false → (n : ℕ) → t.sent ≡ Upto n → Reached (stream_of t.reader t.machine memory) n
-  pub ended : t.last ≡ true → Whole t.sent
+abbrev pub fresh_session : Session
+fresh_session = record { reader = fresh_reader; machine = fresh_machine; memory = replicate 4096 0; written = 0 }
+
+abbrev pub SessionReached : Session → Type 0
+SessionReached s = Reached (stream_of s.reader s.machine s.memory) s.written
+
+-- a turn leads on, or ends with the whole output
+pub record Turned (t : Result (ControlFlow ℕ (Unit {0})) Stopped) (s : Session) : Type 0 where
+  pub onward : t ≡ Ok (Continue tt) → SessionReached s
+  pub ended : (n : ℕ) → t ≡ Ok (Break n) → Whole (Ok n)

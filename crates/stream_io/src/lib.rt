@@ -1,106 +1,55 @@
 #![tactic(auto)]
 
 // A record stream that is read in pieces, applied to a fresh machine, and what it prints written to standard output.
-ghost use Rattle.std.specs.Prelude.{◌≡◌, length, replicate};
+ghost use Rattle.std.specs.Prelude.{◌≡◌, OnOk};
 ghost use Rattle.std.specs.Io.{ReadsAtMost};
 ghost use Rattle.stream_records.specs.Reader.{progress_of};
-ghost use Rattle.stream_feed.specs.Feed.{stream_of};
 ghost use Rattle.stream_feed.specs.Stream.{last_text};
-ghost use Rattle.stream_feed.specs.declared.feed.Text.TheVariants.{Written};
-ghost use Rattle.stream_io.specs.Output.{Next, Holds, Sends, Whole, Reached, Turned};
+ghost use Rattle.stream_io.specs.Output.{Next, Sends, Whole, fresh_session, SessionReached, Turned};
 
 use failures::Failure;
 use machine::Machine;
 use std::io;
 use std::io::Read;
-use stream_feed::feed::{Text, feed};
+use std::ops::ControlFlow;
+use stream_feed::feed::feed;
 use stream_feed::finish::finish;
 use stream_records::reader::Reader;
 
-#[derive(Clone, Copy)]
-pub enum Sent {
-    // How many bytes of the output are written.
-    Upto(u64),
-    // The rest can't be read or written.
-    Stopped,
-}
+// The rest can't be read or written. Why is said on standard error.
+#[derive(Clone, Copy, Debug, PartialEq, Eq)]
+pub struct Stopped;
 
-// What the runner has after a turn.
+// What the runner has between two pieces.
 #[derive(Clone, Copy)]
-pub struct Turn {
+pub struct Session {
     pub reader: Reader,
     pub machine: Machine,
-    pub sent: Sent,
-    // No piece follows.
-    pub last: bool,
+    pub memory: [u8; 4096],
+    // How many bytes of the output are written.
+    pub written: u64,
 }
 
-// Writes to standard output the bytes of the output that follow the first `written`.
-fn write_next(rt: &(impl Print + Eprint), written: u64, text: &[u8]) -> Sent
+// Writes to standard output the bytes of the output that follow the first `written`, and counts them with those.
+fn write_next(rt: &(impl Print + Eprint), written: u64, text: &[u8]) -> Result<u64, Stopped>
     requires { Next written text.now }
-    ensures { Sends written (Written (length text.now)) result }
+    ensures { Sends written text.now result }
 {
-    if u64::MAX - written < text.len() as u64 {
+    let Some(count) = written.checked_add(text.len() as u64) else {
         let _ = eprintln!(rt; "too much output");
-        return Sent::Stopped;
-    }
+        return Err(Stopped);
+    };
     if let Err(error) = rt.write_all(text) {
         let _ = eprintln!(rt; "standard output: {}", Failure(error));
-        return Sent::Stopped;
+        return Err(Stopped);
     }
-    Sent::Upto(written + text.len() as u64)
+    Ok(count)
 }
 
-// Writes what a call left in `out`, if there was room for it.
-fn write_text(rt: &(impl Print + Eprint), written: u64, text: Text, out: &[u8]) -> Sent
-    requires { Holds written text out.now }
-    ensures { Sends written text result }
-{
-    let Text::Written(length) = text else {
-        let _ = eprintln!(rt; "no room for the text");
-        return Sent::Stopped;
-    };
-    write_next(rt, written, &out[..length])
-}
-
-// Writes what the end of the stream prints.
-fn write_last(
-    rt: &(impl Print + Eprint),
-    reader: Reader,
-    machine: Machine,
-    written: u64,
-    out: &mut [u8],
-) -> Sent
-    requires { Next written (last_text (progress_of reader) machine.registers) }
-    ensures { Sends written (Written (length (last_text (progress_of reader) machine.registers))) result }
-{
-    let text = finish(reader, machine, out);
-    write_text(rt, written, text, out)
-}
-
-// Feeds a piece, and writes what it prints.
-fn feed_and_write(
-    rt: &(impl Print + Eprint),
-    reader: Reader,
-    machine: Machine,
-    written: u64,
-    piece: &[u8],
-    memory: &mut [u8],
-    out: &mut [u8],
-) -> Turn
-    requires { Reached (stream_of reader machine memory.old) written }
-    ensures { Turned result memory.new }
-{
-    let fed = feed(reader, machine, piece, memory, out);
-    let reader = fed.reader;
-    let machine = fed.machine;
-    let text = fed.text;
-    Turn {
-        reader,
-        machine,
-        sent: write_text(rt, written, text, out),
-        last: false,
-    }
+// The runner's `out` is long enough, but its type doesn't say so.
+fn say_no_room(rt: &impl Eprint) -> Stopped {
+    let _ = eprintln!(rt; "no room for the text");
+    Stopped
 }
 
 // The next piece. There is none once the reader has stopped.
@@ -119,84 +68,95 @@ fn say_unread(rt: &impl Eprint, name: &str, error: io::Error) {
     let _ = eprintln!(rt; "the stream was not read to its end: its registers are not printed");
 }
 
-// The next piece, or the end: `written` bytes are all that the stream has printed so far.
-fn take_turn(
-    rt: &(impl Print + Eprint),
-    input: &mut impl Read,
-    name: &str,
-    reader: Reader,
-    machine: Machine,
-    written: u64,
-    memory: &mut [u8],
-    out: &mut [u8],
-) -> Turn
-    requires { Reached (stream_of reader machine memory.old) written }
-    ensures { Turned result memory.new }
-{
-    let mut piece = [0u8; 4096];
-    let n = match read_piece(input, reader.stopped, &mut piece) {
-        Ok(n) => n,
-        Err(error) => {
-            say_unread(rt, name, error);
-            return Turn {
-                reader,
-                machine,
-                sent: Sent::Stopped,
-                last: true,
-            };
+impl Session {
+    fn fresh() -> Session
+        ensures { result ≡ fresh_session }
+    {
+        Session {
+            reader: Reader::fresh(),
+            machine: Machine::fresh(),
+            memory: [0; 4096],
+            written: 0,
         }
-    };
-    if n == 0 {
-        return Turn {
-            reader,
-            machine,
-            sent: write_last(rt, reader, machine, written, out),
-            last: true,
-        };
     }
-    feed_and_write(rt, reader, machine, written, &piece[..n], memory, out)
-}
 
-// Piece after piece. A proved loop has to end, and nothing says that the input does: so it counts its turns down,
-// from a number that no run uses up.
-fn run(
-    rt: &(impl Print + Eprint),
-    input: &mut impl Read,
-    name: &str,
-    memory: &mut [u8],
-    out: &mut [u8],
-) -> Sent
-    requires { memory.old ≡ replicate 4096 0 }
-    ensures { Whole result }
-{
-    let mut reader = Reader::fresh();
-    let mut machine = Machine::fresh();
-    let mut written: u64 = 0;
-    let mut turns = u64::MAX;
-    while turns > 0 {
-        let turn = take_turn(rt, input, name, reader, machine, written, memory, out);
-        let sent = turn.sent;
-        if turn.last {
-            return sent;
-        }
-        let Sent::Upto(next) = sent else {
-            return Sent::Stopped;
+    // Writes what the end of the stream prints.
+    fn write_last(&self, rt: &(impl Print + Eprint), out: &mut [u8]) -> Result<u64, Stopped>
+        requires { Next self.now.written (last_text (progress_of self.now.reader) self.now.machine.registers) }
+        ensures { Sends self.now.written (last_text (progress_of self.now.reader) self.now.machine.registers) result }
+    {
+        let Ok(length) = finish(self.reader, self.machine, out) else {
+            return Err(say_no_room(rt));
         };
-        reader = turn.reader;
-        machine = turn.machine;
-        written = next;
-        turns -= 1;
+        write_next(rt, self.written, &out[..length])
     }
-    Sent::Stopped
+
+    // Feeds a piece, and writes what it prints.
+    fn feed_and_write(
+        &mut self,
+        rt: &(impl Print + Eprint),
+        piece: &[u8],
+        out: &mut [u8],
+    ) -> Result<(), Stopped>
+        requires { SessionReached self.old }
+        ensures { OnOk result (SessionReached self.new) }
+    {
+        let Ok(fed) = feed(self.reader, self.machine, piece, &mut self.memory, out) else {
+            return Err(say_no_room(rt));
+        };
+        let written = write_next(rt, self.written, &out[..fed.written])?;
+        self.reader = fed.reader;
+        self.machine = fed.machine;
+        self.written = written;
+        Ok(())
+    }
+
+    // The next piece, or the end, with the number of bytes of the whole output.
+    fn take_turn(
+        &mut self,
+        rt: &(impl Print + Eprint),
+        input: &mut impl Read,
+        name: &str,
+        out: &mut [u8],
+    ) -> Result<ControlFlow<u64>, Stopped>
+        requires { SessionReached self.old }
+        ensures { Turned result self.new }
+    {
+        let mut piece = [0u8; 4096];
+        let n = match read_piece(input, self.reader.stopped, &mut piece) {
+            Ok(n) => n,
+            Err(error) => {
+                say_unread(rt, name, error);
+                return Err(Stopped);
+            }
+        };
+        if n == 0 {
+            let written = self.write_last(rt, out)?;
+            return Ok(ControlFlow::Break(written));
+        }
+        self.feed_and_write(rt, &piece[..n], out)?;
+        Ok(ControlFlow::Continue(()))
+    }
 }
 
 // Runs the stream of an input on a fresh machine with 4,096 zero bytes of memory,
 // and answers how many bytes its output has, if all of it was written. The name says what can't be read.
-pub fn run_descriptor(rt: &(impl Print + Eprint), input: &mut impl Read, name: &str) -> Sent
+// A proved loop has to end, and nothing says that the input does: so it counts its turns, up to a number that no run
+// reaches.
+pub fn run_descriptor(
+    rt: &(impl Print + Eprint),
+    input: &mut impl Read,
+    name: &str,
+) -> Result<u64, Stopped>
     ensures { Whole result }
 {
-    let mut memory = [0u8; 4096];
+    let mut session = Session::fresh();
     // What a piece of 4,096 bytes may print.
     let mut out = [0u8; 57484];
-    run(rt, input, name, &mut memory, &mut out)
+    for _ in 0..u64::MAX {
+        if let ControlFlow::Break(written) = session.take_turn(rt, input, name, &mut out)? {
+            return Ok(written);
+        }
+    }
+    Err(Stopped)
 }

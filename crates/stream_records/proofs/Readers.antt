@@ -1,29 +1,21 @@
 -- A reader that takes a byte.
-use Prim.Native.Nat.{ℕ, zero, suc, ◌+◌, ◌<◌, ◌≤◌}
+use Prim.Native.Nat.{ℕ, ◌+◌, ◌<◌, ◌≤◌}
 use native.Mathlib.Nat.{le_refl}
 use native.Mathlib.Numerals.{add-one}
 use native.Mathlib.Omega.{arith}
-use mathlib.Core.Path.{◌≡◌, refl, sym, ◌∙◌}
+use mathlib.Core.Path.{◌≡◌, sym, ◌∙◌}
 use mathlib.Core.Bool.{Bool, true, false}
 use mathlib.Core.List.{List, [], ◌∷◌, ◌++◌}
-use lib.ListN.{length, get_or, set, take, drop, length-set}
-use lib.Seq.{take-suc-set, take-set-le, length-take-le, drop-cons}
-use Rattle.stream_records.specs.Record.{next_record}
+use lib.ListN.{length, get_or, set, take, drop, length-set, drop_of_length-le}
+use lib.Seq.{take-suc-set, take-set-le, length-take-le, drop-cons, drop-length}
+use Rattle.std.specs.Prelude.{Option, Some, None, Ok, Err}
+use Rattle.stream_records.specs.Record.{Next, next_record}
 use Rattle.stream_records.specs.Progress.{taken_by, taken, Search, searched, first_of, found}
-use Rattle.stream_records.specs.Reader.{nothing_taken, progress_of, Ready, Taking}
+use Rattle.stream_records.specs.Reader.{progress_of, Ready, Taking}
 use Rattle.stream_records.specs.declared.reader.Reader.{Reader}
-use Rattle.stream_records.specs.declared.reader.Taken.{Taken}
-use Rattle.stream_records.specs.declared.reader.Event.TheVariants as event
 use Rattle.stream_records.specs.declared.record.Record.{Record}
-use Rattle.stream_records.specs.declared.record.Next.{Next}
-use Rattle.stream_records.specs.declared.record.Next.TheVariants.{Whole, Cut, Unknown, End}
+use Rattle.stream_records.specs.declared.record.NoRecord.TheVariants.{Cut, Unknown, End}
 use Rattle.stream_records.proofs.Next.{whole_within, cut_short}
-
-drop_all : (l : List ℕ) (i : ℕ) → length l ≤ i → drop i l ≡ []
-drop_all [] zero h = refl
-drop_all [] (suc i) h = refl
-drop_all (x ∷ l) zero h = absurd (omega arith)
-drop_all (x ∷ l) (suc i) h = drop_all l i (omega arith)
 
 -- a reader after another
 abbrev reader : Reader → List ℕ → ℕ → ℕ → Bool → Reader
@@ -31,7 +23,7 @@ reader r kept length offset stopped =
     record { kept = kept; length = length; offset = offset; stopped = stopped; runs = r.runs }
 
 module _ (r : Reader) (byte : ℕ) (ready : Ready r 1) (full : length r.kept ≡ 11) where
-  pub taking_none : r.stopped ≡ true → Taking r byte (nothing_taken r)
+  pub taking_none : r.stopped ≡ true → Taking r byte None r
   unfolding taken
   taking_none e = record { same = rw e; sized = full; short = ready.short; reached = omega arith }
 
@@ -66,58 +58,59 @@ module _ (r : Reader) (byte : ℕ) (ready : Ready r 1) (full : length r.kept ≡
     by_next n e = rw (going, ← more, e)
 
     pub taking_whole :
-        (w : Record) (next : ℕ) → next_record r.runs with_byte 0 ≡ Whole w next →
-        Taking r byte (record { event = event.Whole w; reader = reader r stored 0 (r.offset + next) r.stopped })
+        (w : Record) (next : ℕ) → next_record r.runs with_byte 0 ≡ Ok (w, next) →
+        Taking r byte (Some w) (reader r stored 0 (r.offset + next) r.stopped)
     taking_whole w next e = record {
       sized = stored_size;
-      same = cc (by_next (Whole w next) e);
+      same = cc (by_next (Ok (w, next)) e);
       short = omega arith;
       reached = omega (arith, (whole_within r.runs with_byte 0 next e).end, part_length);
     }
 
     pub taking_cut :
-        next_record r.runs with_byte 0 ≡ Cut →
-        Taking r byte (nothing_taken (reader r stored (r.length + 1) r.offset r.stopped))
+        next_record r.runs with_byte 0 ≡ Err Cut →
+        Taking r byte None (reader r stored (r.length + 1) r.offset r.stopped)
     taking_cut e = record {
       sized = stored_size;
-      same = cc (by_next Cut e);
+      same = cc (by_next (Err Cut) e);
       short = omega (arith, cut_short r.runs with_byte 0 e, part_length);
       reached = omega arith;
     }
 
     pub taking_unknown :
-        next_record r.runs with_byte 0 ≡ Unknown →
-        Taking r byte (nothing_taken (reader r stored r.length r.offset true))
-    taking_unknown e =
-        record { sized = stored_size; same = rw same (by_next Unknown e); short = ready.short; reached = omega arith }
+        next_record r.runs with_byte 0 ≡ Err Unknown →
+        Taking r byte None (reader r stored r.length r.offset true)
+    taking_unknown e = record {
+      sized = stored_size;
+      same = rw same (by_next (Err Unknown) e);
+      short = ready.short;
+      reached = omega arith;
+    }
 
     pub taking_end :
-        next_record r.runs with_byte 0 ≡ End →
-        Taking r byte (nothing_taken (reader r stored r.length r.offset r.stopped))
+        next_record r.runs with_byte 0 ≡ Err End →
+        Taking r byte None (reader r stored r.length r.offset r.stopped)
     taking_end e =
-        record { sized = stored_size; same = rw same (by_next End e); short = ready.short; reached = omega arith }
+        record { sized = stored_size; same = rw same (by_next (Err End) e); short = ready.short; reached = omega arith }
 
 -- The first record in the bytes from a place on.
 module _ (r : Reader) (piece : List ℕ) (i : ℕ) where
   abbrev pub first : Search
   first = found (progress_of r) (drop i piece)
 
-  pub found_none : length piece ≤ i → searched event.Nothing (progress_of r) (drop i piece) ≡ first
+  pub found_none : length piece ≤ i → searched None (progress_of r) (drop (length piece) piece) ≡ first
   unfolding found
-  found_none h = rw (drop_all piece i h)
+  found_none h = rw (drop_of_length-le piece h, drop-length piece)
 
-module _ (r : Reader) (piece : List ℕ) (i : ℕ) (t : Taken) (inside : i < length piece)
-    (taking : Taking r (get_or piece i 0) t)
+module _ (r : Reader) (piece : List ℕ) (i : ℕ) (t : Option Record) (r' : Reader) (inside : i < length piece)
+    (taking : Taking r (get_or piece i 0) t r')
   where
     abbrev here : Search
-    here = searched t.event (progress_of t.reader) (drop (i + 1) piece)
+    here = searched t (progress_of r') (drop (i + 1) piece)
 
-    step : first r piece i ≡ first_of t.event here (first t.reader piece (i + 1))
+    pub found_step : first r piece i ≡ first_of t here (first r' piece (i + 1))
     unfolding found
-    step = rw (drop-cons piece i 0 inside, add-one i, ← taking.same)
+    found_step = rw (drop-cons piece i 0 inside, add-one i, ← taking.same)
 
-    pub found_whole : (w : Record) → t.event ≡ event.Whole w → here ≡ first r piece i
-    found_whole w e = sym (step ∙ rw e)
-
-    pub found_later : t.event ≡ event.Nothing → first t.reader piece (i + 1) ≡ first r piece i
-    found_later e = sym (step ∙ rw e)
+    pub found_later : t ≡ None → first r' piece (i + 1) ≡ first r piece i
+    found_later e = sym (found_step ∙ rw e)

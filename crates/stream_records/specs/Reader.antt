@@ -1,9 +1,9 @@
 -- The reader, and what its calls do.
 use Rattle.std.specs.Prelude.{ℕ, ◌+◌, ◌-◌, ◌^◌, ◌<◌, ◌≤◌, ◌≡◌, Bool, true, false, List, length, take, drop, replicate}
+use Rattle.std.specs.Prelude.{Option}
 use Rattle.stream_records.specs.declared.reader.Reader.{Reader}
-use Rattle.stream_records.specs.declared.reader.Taken.{Taken}
 use Rattle.stream_records.specs.declared.reader.Found.{Found}
-use Rattle.stream_records.specs.declared.reader.Event.TheVariants.{Nothing}
+use Rattle.stream_records.specs.declared.record.Record.{Record}
 use Rattle.stream_records.specs.Progress.{Progress, progress, advance, taken, searched, found}
 
 abbrev pub new_reader : Bool → Reader
@@ -16,9 +16,6 @@ fresh_reader = new_reader true
 abbrev pub reader_without_runs : Reader
 reader_without_runs = new_reader false
 
-abbrev pub nothing_taken : Reader → Taken
-nothing_taken r = record { event = Nothing; reader = r }
-
 abbrev pub progress_of : Reader → Progress
 progress_of r = progress r.runs (take r.length r.kept) r.offset r.stopped
 
@@ -27,14 +24,14 @@ pub record Ready (r : Reader) (more : ℕ) : Type 0 where
   pub short : r.length ≤ 10
   pub room : r.offset + r.length + more < 2 ^ 64
 
-pub record Taking (r : Reader) (byte : ℕ) (t : Taken) : Type 0 where
-  pub same : advance t.event (progress_of t.reader) ≡ taken (progress_of r) byte
-  pub sized : length t.reader.kept ≡ 11
-  pub short : t.reader.length ≤ 10
-  pub reached : t.reader.offset + t.reader.length ≤ r.offset + r.length + 1
+pub record Taking (r : Reader) (byte : ℕ) (t : Option Record) (r' : Reader) : Type 0 where
+  pub same : advance t (progress_of r') ≡ taken (progress_of r) byte
+  pub sized : length r'.kept ≡ 11
+  pub short : r'.length ≤ 10
+  pub reached : r'.offset + r'.length ≤ r.offset + r.length + 1
 
 pub record Finding (r : Reader) (piece : List ℕ) (from : ℕ) (f : Found) : Type 0 where
-  pub same : searched f.event (progress_of f.reader) (drop f.at piece) ≡ found (progress_of r) (drop from piece)
+  pub same : searched f.whole (progress_of f.reader) (drop f.at piece) ≡ found (progress_of r) (drop from piece)
   pub sized : length f.reader.kept ≡ 11
   pub short : f.reader.length ≤ 10
   pub reached :

@@ -1,62 +1,83 @@
 -- One record of a stream: one byte of kind, then a body whose length the kind fixes; numbers little-endian.
-use Rattle.std.specs.Prelude.{ℕ, ◌+◌, Bool, cond, not, ◌||◌, List, [], ◌∷◌, leb, ltb, eqb, length, get_or}
+use Rattle.std.specs.Prelude.{ℕ, ◌+◌, Bool, false, cond, List, leb, ltb, eqb, length, get_or, Result, Ok, Err}
 use Rattle.memory.specs.LittleEndian.{number}
-use Rattle.stream_records.specs.declared.record.Layout.{Layout}
+use Rattle.stream_records.specs.declared.kind.Kind.{Kind}
+use Rattle.stream_records.specs.declared.kind.Kind.TheVariants as kind
+use Rattle.stream_records.specs.declared.kind.UnknownKind.{UnknownKind}
+use Rattle.stream_records.specs.declared.kind.Layout.{Layout}
 use Rattle.stream_records.specs.declared.record.Record.{Record}
 use Rattle.stream_records.specs.declared.record.Record.TheVariants.{RegisterEntry, PredicateEntry, StateWord}
 use Rattle.stream_records.specs.declared.record.Record.TheVariants.{Register, Run, Memory}
-use Rattle.stream_records.specs.declared.record.Next.{Next}
-use Rattle.stream_records.specs.declared.record.Next.TheVariants.{Whole, Cut, Unknown, End}
+use Rattle.stream_records.specs.declared.record.NoRecord.{NoRecord}
+use Rattle.stream_records.specs.declared.record.NoRecord.TheVariants.{Cut, Unknown, End}
+
+abbrev pub unknown : UnknownKind
+unknown = record {}
+
+-- what is at a place: a record and the place after it, or why there is none
+abbrev pub Next : Type 0
+Next = Result (Record × ℕ) NoRecord
+
+-- the kind that a byte stands for
+abbrev pub kind_of : ℕ → Result Kind UnknownKind
+kind_of byte =
+    cond (eqb byte 1) (Ok kind.RegisterEntry)
+    (cond (eqb byte 2) (Ok kind.PredicateEntry)
+    (cond (eqb byte 3) (Ok kind.StateWord)
+    (cond (eqb byte 4) (Ok kind.Register)
+    (cond (eqb byte 5) (Ok kind.Run)
+    (cond (eqb byte 6) (Ok kind.Memory)
+    (Err unknown))))))
+
+-- a kind, where run records are served, and where they are not: there their kind is unknown
+abbrev pub served : Bool → Kind → Result Kind UnknownKind
+served false kind.Run = Err unknown
+served runs k = Ok k
+
+abbrev pub served_by : Bool → Result Kind UnknownKind → Result Kind UnknownKind
+served_by runs (Ok k) = served runs k
+served_by runs (Err e) = Err e
+
+-- the same by the byte
+unfoldable pub served_kind : Bool → ℕ → Result Kind UnknownKind
+served_kind runs byte = served_by runs (kind_of byte)
 
 abbrev pub fields : ℕ → ℕ → Layout
 fields first second = record { first = first; second = second }
 
--- The bytes of the two fields of a body, by its kind from 0 on. There is no kind 0.
-unfoldable pub layouts : List Layout
-layouts =
-    fields 0 0
-    ∷ fields 1 2
-    ∷ fields 1 2
-    ∷ fields 4 0
-    ∷ fields 1 8
-    ∷ fields 4 2
-    ∷ fields 2 8
-    ∷ []
+-- the bytes of the two fields of a kind's body
+abbrev pub layout_of : Kind → Layout
+layout_of kind.RegisterEntry = fields 1 2
+layout_of kind.PredicateEntry = fields 1 2
+layout_of kind.StateWord = fields 4 0
+layout_of kind.Register = fields 1 8
+layout_of kind.Run = fields 4 2
+layout_of kind.Memory = fields 2 8
 
--- a first field of no bytes stands for an unknown kind
-unfoldable pub layout_of : ℕ → Layout
-unfolding layouts
-layout_of kind = get_or layouts kind (fields 0 0)
-
--- the same where run records are served, and where they are not: there their kind is unknown
-unfoldable pub served_layout : Bool → ℕ → Layout
-served_layout runs kind = cond (runs || not (eqb kind 5)) (layout_of kind) (fields 0 0)
-
--- the record of a known kind and its fields
-unfoldable pub record_of : ℕ → ℕ → ℕ → Record
-record_of kind first second =
-    cond (eqb kind 1) (RegisterEntry first second)
-    (cond (eqb kind 2) (PredicateEntry first second)
-    (cond (eqb kind 3) (StateWord first)
-    (cond (eqb kind 4) (Register first second)
-    (cond (eqb kind 5) (Run first second)
-    (Memory first second)))))
+-- the record of a kind and its fields
+abbrev pub record_of : Kind → ℕ → ℕ → Record
+record_of kind.RegisterEntry first second = RegisterEntry first second
+record_of kind.PredicateEntry first second = PredicateEntry first second
+record_of kind.StateWord first second = StateWord first
+record_of kind.Register first second = Register first second
+record_of kind.Run first second = Run first second
+record_of kind.Memory first second = Memory first second
 
 -- a record whose body is all there, and the place after it
-abbrev pub whole_at : List ℕ → ℕ → ℕ → Layout → Next
-whole_at bytes kind body l =
+abbrev pub whole_at : List ℕ → ℕ → Kind → Record × ℕ
+whole_at bytes body k =
+    let l = layout_of k in
     let middle = body + l.first in
-    Whole (record_of kind (number bytes body l.first) (number bytes middle l.second)) (middle + l.second)
+    (record_of k (number bytes body l.first) (number bytes middle l.second), middle + l.second)
 
 -- the record of a kind whose body begins at a place, if the kind is known and the body all there
-unfoldable pub body_at : List ℕ → ℕ → ℕ → Layout → Next
-body_at bytes kind body l =
-    cond (ltb l.first 1) Unknown
-    (cond (ltb (length bytes) (body + l.first + l.second)) Cut
-    (whole_at bytes kind body l))
+unfoldable pub body_at : List ℕ → ℕ → Result Kind UnknownKind → Next
+body_at bytes body (Ok k) =
+    let l = layout_of k in
+    cond (ltb (length bytes) (body + l.first + l.second)) (Err Cut) (Ok (whole_at bytes body k))
+body_at bytes body (Err e) = Err Unknown
 
--- what is at a place, where run records are served or not
+-- the record at a place, where run records are served or not
 unfoldable pub next_record : Bool → List ℕ → ℕ → Next
 next_record runs bytes at =
-    let kind = get_or bytes at 0 in
-    cond (leb (length bytes) at) End (body_at bytes kind (at + 1) (served_layout runs kind))
+    cond (leb (length bytes) at) (Err End) (body_at bytes (at + 1) (served_kind runs (get_or bytes at 0)))

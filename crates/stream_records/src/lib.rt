@@ -5,6 +5,9 @@
 // A number of some bytes.
 mod field;
 
+// The kinds, and what their bodies hold.
+pub mod kind;
+
 // One record, read from bytes that hold it.
 pub mod record;
 

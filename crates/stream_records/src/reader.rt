@@ -1,8 +1,8 @@
 ghost use Rattle.std.specs.Prelude.{◌≡◌, ◌-◌, length};
 ghost use Rattle.stream_records.specs.Reader.{new_reader, fresh_reader, reader_without_runs};
-ghost use Rattle.stream_records.specs.Reader.{nothing_taken, Ready, Taking, Finding};
+ghost use Rattle.stream_records.specs.Reader.{Ready, Taking, Finding};
 
-use crate::record::{Next, Record, next_record};
+use crate::record::{NoRecord, Record, next_record};
 
 // The bytes of a record that has not ended, and where in the stream it begins.
 #[derive(Clone, Copy)]
@@ -16,22 +16,10 @@ pub struct Reader {
     pub runs: bool,
 }
 
-#[derive(Clone, Copy)]
-pub enum Event {
-    Whole(Record),
-    Nothing,
-}
-
-#[derive(Clone, Copy)]
-pub struct Taken {
-    pub event: Event,
-    pub reader: Reader,
-}
-
-// The first record that ended in a piece, and the place after it.
+// The first record that ended in a piece, if one did, and the place after it.
 #[derive(Clone, Copy)]
 pub struct Found {
-    pub event: Event,
+    pub whole: Option<Record>,
     pub reader: Reader,
     pub at: usize,
 }
@@ -62,71 +50,53 @@ impl Reader {
         Reader::new(false)
     }
 
-    fn nothing_taken(self) -> Taken
-        ensures { result ≡ nothing_taken self }
-    {
-        Taken {
-            event: Event::Nothing,
-            reader: self,
-        }
-    }
-
-    fn take(mut self, byte: u8) -> Taken
-        requires { Ready self 1 }
-        ensures { Taking self byte result }
+    // Takes a byte, and gives the record that ends with it, if one does.
+    fn take(&mut self, byte: u8) -> Option<Record>
+        requires { Ready self.old 1 }
+        ensures { Taking self.old byte result self.new }
     {
         if self.stopped {
-            return self.nothing_taken();
+            return None;
         }
         let at = self.length;
-        self.kept[at] = byte;
         let end = at + 1;
-        let kept = self.kept;
-        match next_record(self.runs, &kept[..end], 0) {
-            Next::Whole(record, next) => {
+        self.kept[at] = byte;
+        match next_record(self.runs, &self.kept[..end], 0) {
+            Ok((record, next)) => {
                 self.length = 0;
-                self.offset = self.offset + next as u64;
-                Taken {
-                    event: Event::Whole(record),
-                    reader: self,
-                }
+                self.offset += next as u64;
+                Some(record)
             }
-            Next::Cut => {
+            Err(NoRecord::Cut) => {
                 self.length = end;
-                self.nothing_taken()
+                None
             }
-            Next::Unknown => {
+            Err(NoRecord::Unknown) => {
                 self.stopped = true;
-                self.nothing_taken()
+                None
             }
-            Next::End => self.nothing_taken(),
+            Err(NoRecord::End) => None,
         }
     }
 
     // Takes the bytes of a piece from a place on, up to the end of a record or of the piece.
-    pub fn find(self, piece: &[u8], from: usize) -> Found
+    pub fn find(mut self, piece: &[u8], from: usize) -> Found
         requires { Ready self (length piece.now - from) }
         ensures { Finding self piece.now from result }
     {
-        let mut reader = self;
-        let mut i = from;
-        while i < piece.len() {
-            let taken = reader.take(piece[i]);
-            reader = taken.reader;
-            i += 1;
-            let event = taken.event;
-            if let Event::Whole(_) = event {
+        for i in from..piece.len() {
+            if let Some(record) = self.take(piece[i]) {
                 return Found {
-                    event,
-                    reader,
-                    at: i,
+                    whole: Some(record),
+                    reader: self,
+                    at: i + 1,
                 };
             }
         }
         Found {
-            event: Event::Nothing,
-            reader,
-            at: i,
+            whole: None,
+            reader: self,
+            at: piece.len(),
         }
     }
 }

@@ -1,7 +1,9 @@
-ghost use Rattle.std.specs.Prelude.{◌≡◌, ◌*◌, ◌^◌, ◌<◌};
-ghost use Rattle.stream_records.specs.Record.{layout_of, served_layout, record_of, next_record};
+ghost use Rattle.std.specs.Prelude.{◌≡◌};
+ghost use Rattle.stream_records.specs.declared.record.NoRecord.TheVariants.{Unknown};
+ghost use Rattle.stream_records.specs.Record.{next_record};
 
 use crate::field::field;
+use crate::kind::{Kind, UnknownKind};
 
 #[derive(Clone, Copy)]
 pub enum Record {
@@ -17,12 +19,10 @@ pub enum Record {
     Memory(u16, u64),
 }
 
-// What is at a place of some bytes.
+// Why there is no record at a place of some bytes.
 #[derive(Clone, Copy)]
-pub enum Next {
-    // A record, and the place after it.
-    Whole(Record, usize),
-    // A record whose last bytes are missing.
+pub enum NoRecord {
+    // Its last bytes are missing.
     Cut,
     // A kind that there is not.
     Unknown,
@@ -30,100 +30,30 @@ pub enum Next {
     End,
 }
 
-// How many bytes the two fields of a kind's body have.
-#[derive(Clone, Copy)]
-pub struct Layout {
-    pub first: usize,
-    pub second: usize,
-}
+impl From<UnknownKind> for NoRecord {
+    ghost from_gives = { λ _ none. none ≡ Unknown };
 
-// A first field of no bytes stands for an unknown kind.
-#[tactic(auto, unfolding(crate::specs::Record::layout_of))]
-fn layout_of(kind: u8) -> Layout
-    ensures { result ≡ layout_of kind }
-{
-    match kind {
-        1 => Layout {
-            first: 1,
-            second: 2,
-        },
-        2 => Layout {
-            first: 1,
-            second: 2,
-        },
-        3 => Layout {
-            first: 4,
-            second: 0,
-        },
-        4 => Layout {
-            first: 1,
-            second: 8,
-        },
-        5 => Layout {
-            first: 4,
-            second: 2,
-        },
-        6 => Layout {
-            first: 2,
-            second: 8,
-        },
-        _ => Layout {
-            first: 0,
-            second: 0,
-        },
+    fn from(_unknown: UnknownKind) -> NoRecord {
+        NoRecord::Unknown
     }
 }
 
-// The same where run records are served, and where they are not.
-#[tactic(auto, unfolding(crate::specs::Record::served_layout))]
-fn served_layout(runs: bool, kind: u8) -> Layout
-    ensures { result ≡ served_layout runs kind }
-{
-    if runs | (kind != 5) {
-        return layout_of(kind);
-    }
-    Layout {
-        first: 0,
-        second: 0,
-    }
-}
-
-// The record of a known kind and its fields.
-#[tactic(auto, unfolding(crate::specs::Record::layout_of, crate::specs::Record::record_of))]
-fn record_of(kind: u8, first: u64, second: u64) -> Record
-    requires { (0 < (layout_of kind).first)
-        × (first < 2 ^ (8 * (layout_of kind).first))
-        × (second < 2 ^ (8 * (layout_of kind).second)) }
-    ensures { result ≡ record_of kind first second }
-{
-    match kind {
-        1 => Record::RegisterEntry(first as u8, second as u16),
-        2 => Record::PredicateEntry(first as u8, second as u16),
-        3 => Record::StateWord(first as u32),
-        4 => Record::Register(first as u8, second),
-        5 => Record::Run(first as u32, second as u16),
-        _ => Record::Memory(first as u16, second),
-    }
-}
-
-// What is at a place, where run records are served or not.
-pub fn next_record(runs: bool, bytes: &[u8], at: usize) -> Next
+// The record at a place, and the place after it, where run records are served or not.
+#[tactic(auto, using(crate::proofs::Layouts::small), unfolding(crate::specs::Record::next_record, crate::specs::Record::body_at))]
+pub fn next_record(runs: bool, bytes: &[u8], at: usize) -> Result<(Record, usize), NoRecord>
     ensures { result ≡ next_record runs bytes.now at }
 {
     if bytes.len() <= at {
-        return Next::End;
+        return Err(NoRecord::End);
     }
-    let kind = bytes[at];
-    let fields = served_layout(runs, kind);
-    if fields.first < 1 {
-        return Next::Unknown;
-    }
+    let kind = Kind::served(runs, bytes[at])?;
+    let fields = kind.layout();
     let body = at + 1;
     if bytes.len() - body < fields.first + fields.second {
-        return Next::Cut;
+        return Err(NoRecord::Cut);
     }
     let middle = body + fields.first;
     let first = field(bytes, body, fields.first);
     let second = field(bytes, middle, fields.second);
-    Next::Whole(record_of(kind, first, second), middle + fields.second)
+    Ok((kind.record(first, second), middle + fields.second))
 }

@@ -4,9 +4,10 @@ use native.Mathlib.Nat.{zero-add, add-zero, suc-add, add-suc}
 use native.Mathlib.Numerals.{add-one}
 use native.Mathlib.Omega.{arith}
 use mathlib.Core.Path.{◌≡◌, refl, sym, ◌∙◌}
-use mathlib.Core.List.{List, [], ◌∷◌, ◌++◌}
-use lib.ListN.{length, get_or, set, take, drop, length-append}
-use lib.Seq.{sets, length-sets, sets-eq, take-suc}
+use mathlib.Core.List.{List, [], ◌∷◌, ◌++◌, append_assoc}
+use lib.ListN.{length, get_or, set, drop, length-append}
+use borrow.Rule.Slice.PartMut.{put_mid}
+use lib.Seq.{sets, length-sets, sets-eq, drop-drop}
 use Rattle.stream_text.specs.Decimal.{decimal}
 use Rattle.stream_text.specs.Lines.{number_then, nonzero_line, lines_below}
 use Rattle.stream_text.specs.Put.{Put}
@@ -35,13 +36,14 @@ put_byte x p = put_join p (record { end = refl; bytes = refl })
 pub put_length : {a b t : List ℕ} {at next : ℕ} → Put a at t b next → length b ≡ length a
 put_length {a} {b} {t} {at} p = rw p.bytes (length-sets a at t)
 
--- a copy, byte by byte
-pub copy_more :
-    {a b : List ℕ} (bytes : List ℕ) (at i : ℕ) → i < length bytes → Put a at (take i bytes) b (at + i) →
-    Put a at (take (i + 1) bytes) (set b (at + i) (get_or bytes i 0)) (at + (i + 1))
-copy_more bytes at i h p =
-    let e : at + (i + 1) ≡ at + i + 1 = omega arith in
-    rw (e, add-one i, take-suc bytes i 0) (put_byte (get_or bytes i 0) p)
+-- a text copied over a part
+pub put_part :
+    {old text new : List ℕ} {at n : ℕ} → at + length text ≤ length old → n ≡ length text → new ≡ text →
+    Put old at text (put_mid at n old new) (at + length text)
+put_part {old} {text} {new} {at} {n} inside size copied = record {
+  end = refl;
+  bytes = rw (size, copied, sets-eq text old at inside, drop-drop (length text) at old, append_assoc);
+}
 
 -- the place after two numbers of at most k + 1 and j + 1 digits and a byte after each
 pub pair_end :

@@ -6,6 +6,9 @@ ghost use Rattle.stream_text.specs.Put.{Put};
 
 use crate::decimal::put_decimal;
 
+// `out` and `at` stay two parameters: a struct that holds the `&mut` is no plainer, since each of its methods would
+// have to ensure besides that it holds the same reference, where `Put` says all in one.
+
 // A number, and a byte after it.
 fn put_number(out: &mut [u8], at: usize, n: u64, after: u8) -> usize
     requires { at + length (decimal n) + 1 ≤ length out.old }
@@ -20,16 +23,12 @@ fn put_bytes(out: &mut [u8], at: usize, bytes: &[u8]) -> usize
     requires { at + length bytes.now ≤ length out.old }
     ensures { Put out.old at bytes.now out.new result }
 {
-    let mut i: usize = 0;
-    while i < bytes.len() {
-        out[at + i] = bytes[i];
-        i += 1;
-    }
-    at + i
+    let end = at + bytes.len();
+    out[at..end].copy_from_slice(bytes);
+    end
 }
 
 // Two numbers with a space between, and a byte after them.
-
 fn put_pair(out: &mut [u8], at: usize, first: u64, second: u64, after: u8) -> usize
     requires { at + length (decimal first) + length (decimal second) + 2 ≤ length out.old }
     ensures { Put out.old at (number_then first space ++ number_then second after) out.new result }
@@ -63,7 +62,8 @@ fn put_labelled(out: &mut [u8], at: usize, label: &[u8], n: u64) -> usize
     put_number(out, number, n, b'\n')
 }
 
-// A setting that was refused.
+// A setting that was refused. This and `put_bad_record` are one function already, `put_labelled`, under the names and
+// rooms that are promised.
 pub fn put_refused(out: &mut [u8], at: usize, answer: u32) -> usize
     requires { at + 19 ≤ length out.old }
     ensures { Put out.old at (refused_line answer) out.new result × (result ≤ at + 19) }
@@ -107,10 +107,8 @@ pub fn put_registers(out: &mut [u8], at: usize, registers: &[u64; 128]) -> usize
     ensures { Put out.old at (lines_below registers.now 128) out.new result × (result ≤ at + 3328) }
 {
     let mut next = at;
-    let mut i: usize = 0;
-    while i < 128 {
-        next = put_nonzero(out, next, i, registers[i]);
-        i += 1;
+    for (i, &value) in registers.iter().enumerate() {
+        next = put_nonzero(out, next, i, value);
     }
     next
 }

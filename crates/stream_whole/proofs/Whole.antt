@@ -1,7 +1,7 @@
 -- The text of all bytes, and after it the text of the end.
 use Prim.Native.Nat.{ℕ, ◌+◌, ◌-◌, ◌^◌, ◌<◌, ◌≤◌}
 use native.Mathlib.Omega.{arith}
-use mathlib.Core.Path.{◌≡◌, ap, ◌∙◌}
+use mathlib.Core.Path.{◌≡◌, refl, ap, ◌∙◌}
 use mathlib.Core.Bool.{Bool, true}
 use mathlib.Core.List.{List, [], ◌++◌, append_assoc, append-nil}
 use borrow.Author.Tests.{le-leb, lt-leb, leb-false}
@@ -10,34 +10,40 @@ use borrow.Rule.Slice.PartMut.{put_mid, Post-is}
 use lib.Dec.{leb}
 use lib.ListN.{length, take, drop, replicate, length-append, length-drop, take-append-drop}
 use lib.Seq.{length-take-le, drop-append-le, drop-length}
+use Rattle.std.specs.Prelude.{Result, Ok, Err}
+use Rattle.std.specs.Result.{IsErr}
 use Rattle.machine.specs.Shape.{fresh_machine}
 use Rattle.stream_records.specs.Reader.{fresh_reader}
-use Rattle.stream_feed.specs.declared.feed.Text.{Text}
-use Rattle.stream_feed.specs.declared.feed.Text.TheVariants.{Written, NoRoom}
+use Rattle.stream_feed.specs.declared.feed.NoRoom.{NoRoom}
 use Rattle.stream_feed.specs.declared.feed.Fed as declared
 use Rattle.stream_feed.specs.Stream.{Fed, fed, finished, fresh_stream, output}
 use Rattle.stream_feed.specs.Feed.{piece_room, acceptable, feed_result, fed_into, stream_of}
-use Rattle.stream_feed.specs.Feed.{last_room, finished_into, text_out, written_if, written_into}
+use Rattle.stream_feed.specs.Feed.{Written, no_room, last_room, finished_into, text_out, written_into}
 use Rattle.stream_feed.proofs.Accepting.{by_room, accepted}
-use Rattle.stream_feed.proofs.Texts.{Wrote, wrote_within, wrote_more, wrote_if, refused_if, fed_text, fed_stream}
+use Rattle.stream_feed.proofs.Texts.{Wrote, wrote_within, wrote_more, wrote_if, refused_if}
+use Rattle.stream_feed.proofs.Texts.{fed_wrote, fed_refused, fed_stream}
 use Rattle.stream_whole.specs.Whole.{whole_room, run_into}
 
 -- without room for the end there is none for the whole
-pub no_end : (bytes out : List ℕ) → length out < last_room → text_out NoRoom out ≡ run_into bytes out
+pub no_end : (bytes out : List ℕ) → length out < last_room → text_out no_room out ≡ run_into bytes out
 unfolding run_into
 no_end bytes out h = rw (lt-leb (whole_room (length bytes)) (length out) (omega arith))
 
+only_no_room : (t : Written) → IsErr t → t ≡ no_room
+only_no_room (Ok n) err = cc
+only_no_room (Err e) err = refl
+
 -- what was fed into the first part of `out`
-pub record Given (bytes out : List ℕ) (r : declared.Fed) (memory part : List ℕ) : Type 0 where
+pub record Given (bytes out : List ℕ) (r : Result declared.Fed NoRoom) (memory part : List ℕ) : Type 0 where
   pub counted : length bytes < 2 ^ 64
   pub sized : length out < 2 ^ 63
   pub enough : last_room ≤ length out
   pub kept : length part ≡ length (take (length out - last_room) out)
   pub same :
-      feed_result r memory part
+      feed_result fresh_reader fresh_machine r memory part
       ≡ fed_into fresh_reader fresh_machine bytes (replicate 4096 0) (take (length out - last_room) out)
 
-module _ {bytes out memory part : List ℕ} {r : declared.Fed} (g : Given bytes out r memory part) where
+module _ {bytes out memory part : List ℕ} {r : Result declared.Fed NoRoom} (g : Given bytes out r memory part) where
   abbrev room : ℕ
   room = length out - last_room
 
@@ -58,23 +64,30 @@ module _ {bytes out memory part : List ℕ} {r : declared.Fed} (g : Given bytes 
   abbrev current : List ℕ
   current = part ++ drop room out
 
-  text_same : text_out r.text part ≡ written_if fits first.text head
-  text_same = fed_text fresh_reader fresh_machine bytes (replicate 4096 0) head r memory part g.same
-
   room_length : length head ≡ room
   room_length = length-take-le room out (omega arith)
 
-  pub refused : r.text ≡ NoRoom → text_out NoRoom current ≡ run_into bytes out
+  pub refused : {e : NoRoom} {t : Written} → r ≡ Err e → IsErr t → text_out t current ≡ run_into bytes out
   unfolding run_into
-  refused e =
-      let none = refused_if _ first.text text_same e in
+  refused {e} {t} answered err =
+      let same = rw answered at g.same in
+      let none = fed_refused fresh_reader fresh_machine bytes (replicate 4096 0) head memory part same in
       let test = by_room fresh_reader (length bytes) (length head) (omega arith) (omega arith) ∙ none.0 in
       let short = leb-false (piece_room (length bytes)) (length head) test in
-      rw (none.1, take-append-drop, lt-leb (whole_room (length bytes)) (length out) (omega (arith, short, room_length)))
+      let less = lt-leb (whole_room (length bytes)) (length out) (omega (arith, short, room_length)) in
+      rw (only_no_room t err, none.1, take-append-drop, less)
 
-  module _ (n : ℕ) (answered : r.text ≡ Written n) where
+  module _ (f : declared.Fed) (answered : r ≡ Ok f) where
+    abbrev n : ℕ
+    n = f.written
+
+    fed_same :
+        feed_result fresh_reader fresh_machine (Ok f) memory part
+        ≡ fed_into fresh_reader fresh_machine bytes (replicate 4096 0) head
+    fed_same = rw answered at g.same
+
     wrote : (fits ≡ true) × Wrote first.text head n part
-    wrote = wrote_if _ text_same answered
+    wrote = fed_wrote fresh_reader fresh_machine bytes (replicate 4096 0) head memory part f fed_same
 
     within : n ≤ room
     within = omega (arith, wrote_within wrote.1, g.kept, room_length)
@@ -98,10 +111,9 @@ module _ {bytes out memory part : List ℕ} {r : declared.Fed} (g : Given bytes 
     pub inside : n ≤ length current
     inside = omega (arith, within, current_length)
 
-    same_end : finished (stream_of r.reader r.machine memory) ≡ last_text
+    same_end : finished (stream_of f.reader f.machine memory) ≡ last_text
     same_end =
-        ap finished
-        (fed_stream fresh_reader fresh_machine bytes (replicate 4096 0) head r memory part g.same wrote.0)
+        ap finished (fed_stream fresh_reader fresh_machine bytes (replicate 4096 0) head memory part f fed_same)
 
     -- the bytes after the text, and as they are lent to the end
     abbrev rest : List ℕ
@@ -110,29 +122,29 @@ module _ {bytes out memory part : List ℕ} {r : declared.Fed} (g : Given bytes 
     abbrev lent : List ℕ
     lent = take (length current - n) rest
 
-    module _ (t : Text) (last : List ℕ) (ending : text_out t last ≡ finished_into r.reader r.machine lent) where
+    module _ (t : Written) (last : List ℕ) (ending : text_out t last ≡ finished_into f.reader f.machine lent) where
       ended : text_out t last ≡ written_into last_room last_text rest
       unfolding finished_into
       ended = rw (part_to_end current n, same_end) at ending
 
       -- there is room for the end
-      pub never : t ≡ NoRoom → ⊥
+      pub never : {e : NoRoom} → t ≡ Err e → ⊥
       never e =
-          let short = leb-false last_room (length rest) (refused_if _ last_text ended e).0 in
+          let short = leb-false last_room (length rest) (refused_if _ last_text (rw e at ended)).0 in
           omega (arith, short, length-drop n current, current_length, within)
 
-      wrote_end : (m : ℕ) → t ≡ Written m → Wrote last_text rest m last
-      wrote_end m e = (wrote_if (leb last_room (length rest)) ended e).1
+      wrote_end : (m : ℕ) → t ≡ Ok m → Wrote last_text rest m last
+      wrote_end m e = (wrote_if (leb last_room (length rest)) (rw e at ended)).1
 
-      pub both_within : (m : ℕ) → t ≡ Written m → length last ≡ length lent → (n ≤ length out) × (m ≤ length out)
+      pub both_within : (m : ℕ) → t ≡ Ok m → length last ≡ length lent → (n ≤ length out) × (m ≤ length out)
       both_within m e h =
           let end = ap (λ (l : List ℕ). length l) (part_to_end current n) in
           let size = wrote_within (wrote_end m e) in
           (omega (arith, within), omega (arith, h, end, length-drop n current, current_length))
 
       pub total :
-          (m : ℕ) → t ≡ Written m →
-          text_out (Written (n + m)) (put_mid n (length current - n) current last) ≡ run_into bytes out
+          (m : ℕ) → t ≡ Ok m →
+          text_out (Ok (n + m)) (put_mid n (length current - n) current last) ≡ run_into bytes out
       unfolding run_into output
       total m e =
           let w = wrote_more all (wrote_end m e) in

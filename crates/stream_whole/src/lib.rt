@@ -6,17 +6,17 @@ ghost use Rattle.stream_feed.specs.Feed.{text_out};
 ghost use Rattle.stream_whole.specs.Whole.{run_into};
 
 use machine::Machine;
-use stream_feed::feed::{Text, feed};
+use stream_feed::feed::{NoRoom, feed};
 use stream_feed::finish::{LAST_ROOM, finish};
 use stream_records::reader::Reader;
 
 // Runs a stream on a fresh machine with 4,096 zero bytes of memory, and writes what it prints.
 // It is refused, and nothing is written, where `out` might be too short.
-pub fn run_stream(bytes: &[u8], out: &mut [u8]) -> Text
+pub fn run_stream(bytes: &[u8], out: &mut [u8]) -> Result<usize, NoRoom>
     ensures { text_out result out.new ≡ run_into bytes.now out.old }
 {
     if out.len() < LAST_ROOM {
-        return Text::NoRoom;
+        return Err(NoRoom);
     }
     let room = out.len() - LAST_ROOM;
     let mut memory = [0u8; 4096];
@@ -26,16 +26,7 @@ pub fn run_stream(bytes: &[u8], out: &mut [u8]) -> Text
         bytes,
         &mut memory,
         &mut out[..room],
-    );
-    let text = fed.text;
-    let Text::Written(length) = text else {
-        return Text::NoRoom;
-    };
-    let reader = fed.reader;
-    let machine = fed.machine;
-    let last = finish(reader, machine, &mut out[length..]);
-    let Text::Written(more) = last else {
-        return Text::NoRoom;
-    };
-    Text::Written(length + more)
+    )?;
+    let more = finish(fed.reader, fed.machine, &mut out[fed.written..])?;
+    Ok(fed.written + more)
 }

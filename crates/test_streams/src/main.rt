@@ -11,7 +11,7 @@ fn run_file(rt: &(impl Files + Print + Eprint), path: &str) {
     match File::open(rt, path) {
         Ok(mut file) => {
             let _ = println!(rt; "{path}");
-            stream_io::run_descriptor(rt, &mut file, "stream");
+            let _ = stream_io::run_descriptor(rt, &mut file, "stream");
         }
         Err(error) => {
             let _ = eprintln!(rt; "{path}: {}", Failure(error));
