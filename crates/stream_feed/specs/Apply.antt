@@ -3,8 +3,8 @@ use Rattle.std.specs.Prelude.{ℕ, Bool, true, false, cond, List, []}
 use Rattle.answers.specs.declared.Answer.{Answer}
 use Rattle.answers.specs.declared.Answer.TheVariants as answer
 use Rattle.answers.specs.Answer.{number_of, accepts}
-use Rattle.memory.specs.declared.store.Stored.{Stored}
-use Rattle.memory.specs.declared.store.Stored.TheVariants as store
+use Rattle.std.specs.Prelude.{⊤, Result, Ok, Err}
+use Rattle.memory.specs.declared.access.Outside.{Outside}
 use Rattle.memory.specs.Transfer.{store_answer, stored}
 use Rattle.walk_pausable.specs.Outcome.{Outcome, outcome}
 use Rattle.machine.specs.declared.Reply.{Reply}
@@ -20,9 +20,9 @@ abbrev pub replied : Reply → List ℕ → Outcome Answer System
 replied r memory = outcome r.answer (system r.machine memory)
 
 -- a memory record not wholly inside is refused with 5
-abbrev pub store_answered : Stored → ℕ → Answer
-store_answered store.Done address = answer.Done 0
-store_answered store.Outside address = answer.Outside address
+abbrev pub store_answered : Result ⊤ Outside → ℕ → Answer
+store_answered (Ok done) address = answer.Done 0
+store_answered (Err outside) address = answer.Outside address
 
 -- 8 bytes of memory
 abbrev pub storing : System → ℕ → ℕ → Outcome Answer System

@@ -5,16 +5,17 @@ ghost use Rattle.stream_feed.specs.Apply.{store_answered, applied};
 
 use answers::Answer;
 use machine::{Machine, Reply};
-use memory::store::{Stored, store};
+use memory::access::Outside;
+use memory::store::store;
 use scalar::width::Width;
 use stream_records::record::Record;
 
-fn store_answered(stored: Stored, address: u64) -> Answer
+fn store_answered(stored: Result<(), Outside>, address: u64) -> Answer
     ensures { result ≡ store_answered stored address }
 {
     match stored {
-        Stored::Done => Answer::Done(0),
-        Stored::Outside => Answer::Outside(address),
+        Ok(()) => Answer::Done(0),
+        Err(Outside) => Answer::Outside(address),
     }
 }
 
