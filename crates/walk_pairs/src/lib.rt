@@ -68,8 +68,8 @@ impl Side {
         requires { (i < vl) × (vl ≤ 64) }
         ensures { result ≡ first_on self.mask (vl - (i + 1)) (i + 1) }
     {
-        // Shifted on with the position: five instructions a turn on RV64, and six with `is_on`. By trailing_zeros a skip
-        // has 18 where RV64 can't count zeros, also one over a single position.
+        // Shifted on with the position: five instructions a turn on RV64, and six with `is_on`. By trailing_zeros a
+        // skip has 18 where RV64 can't count zeros, also one over a single position.
         let mut rest = (self.mask.on >> i) / 2;
         let mut k = i + 1;
         while rest % 2 == 0 {
