@@ -11,11 +11,10 @@ fn put_setting(out: &mut [u8], at: usize, answer: Answer) -> usize
     requires { at + 54 ≤ length out.old }
     ensures { Put out.old at (setting_text answer) out.new result × (result ≤ at + 54) }
 {
-    let number = answer.number();
-    if number == 0 {
+    if answer.accepts() {
         return at;
     }
-    put_refused(out, at, number)
+    put_refused(out, at, answer.number())
 }
 
 // The line of a record that was applied, if it has one.
