@@ -4,7 +4,7 @@ ghost use Rattle.stream_records.specs.Record.{kind_of, served_kind, layout_of, r
 use crate::record::Record;
 
 // What a record is, by its first byte.
-#[derive(Clone, Copy)]
+#[derive(Clone, Copy, Debug, PartialEq, Eq)]
 pub enum Kind {
     RegisterEntry,
     PredicateEntry,
@@ -15,7 +15,7 @@ pub enum Kind {
 }
 
 // A byte that stands for no kind.
-#[derive(Clone, Copy)]
+#[derive(Clone, Copy, Debug, PartialEq, Eq)]
 pub struct UnknownKind;
 
 // How many bytes the two fields of a kind's body have.

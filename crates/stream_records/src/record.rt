@@ -20,7 +20,7 @@ pub enum Record {
 }
 
 // Why there is no record at a place of some bytes.
-#[derive(Clone, Copy)]
+#[derive(Clone, Copy, Debug, PartialEq, Eq)]
 pub enum NoRecord {
     // Its last bytes are missing.
     Cut,

@@ -2,7 +2,7 @@
 use Prim.Native.Nat.{ℕ, ◌+◌, ◌-◌, ◌^◌, ◌<◌, ◌≤◌}
 use native.Mathlib.Omega.{arith}
 use mathlib.Core.Path.{◌≡◌, refl, ap, ◌∙◌}
-use mathlib.Core.Bool.{Bool, true}
+use mathlib.Core.Bool.{true}
 use mathlib.Core.List.{List, [], ◌++◌, append_assoc, append-nil}
 use borrow.Author.Tests.{le-leb, lt-leb, leb-false}
 use borrow.Author.Rules.{part_to_end}
@@ -57,9 +57,6 @@ module _ {bytes out memory part : List ℕ} {r : Result declared.Fed NoRoom} (g 
   abbrev last_text : List ℕ
   last_text = finished first.stream
 
-  abbrev fits : Bool
-  fits = acceptable fresh_reader (length bytes) (length head)
-
   -- `out` with its first part fed
   abbrev current : List ℕ
   current = part ++ drop room out
@@ -86,7 +83,7 @@ module _ {bytes out memory part : List ℕ} {r : Result declared.Fed NoRoom} (g 
         ≡ fed_into fresh_reader fresh_machine bytes (replicate 4096 0) head
     fed_same = rw answered at g.same
 
-    wrote : (fits ≡ true) × Wrote first.text head n part
+    wrote : (acceptable fresh_reader (length bytes) (length head) ≡ true) × Wrote first.text head n part
     wrote = fed_wrote fresh_reader fresh_machine bytes (replicate 4096 0) head memory part f fed_same
 
     within : n ≤ room
