@@ -3,7 +3,7 @@
 
 usage: tests/docs_test.py
 
-The documents are README.md, CHANGELOG.md, tests/README.md, all of docs/ but for docs/PORT.md, which sets what is gone
+The documents are README.md, CHANGELOG.md, tests/README.md, all of docs/ but for docs/PORT.md and docs/DESIGN-PASS.md, which set what is gone
 beside what stands for it, and for paths the comments of include/simplev.h. It prints how much it looked at, and what
 is wrong, a line each. A word in backticks that is a name of something else goes into FOREIGN, a path that is none of
 the tree's into NO_PATHS. Needs nothing but Python.
@@ -172,7 +172,7 @@ Piece = collections.namedtuple("Piece", "kind line text head")
 def documents():
     """README.md comes first, then the others by name."""
     found = [*ROOT.glob("*.md"), *(ROOT / "docs").rglob("*.md"), *(ROOT / "tests").glob("*.md")]
-    names = {path.relative_to(ROOT).as_posix() for path in found} - {"docs/PORT.md"}
+    names = {path.relative_to(ROOT).as_posix() for path in found} - {"docs/PORT.md", "docs/DESIGN-PASS.md"}
     return sorted(names, key=lambda name: (name != "README.md", name))
 
 
