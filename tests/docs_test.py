@@ -3,10 +3,10 @@
 
 usage: tests/docs_test.py
 
-The documents are README.md, CHANGELOG.md, tests/README.md, all of docs/ but for docs/PORT.md and docs/DESIGN-PASS.md, which set what is gone
-beside what stands for it, and for paths the comments of include/simplev.h. It prints how much it looked at, and what
-is wrong, a line each. A word in backticks that is a name of something else goes into FOREIGN, a path that is none of
-the tree's into NO_PATHS. Needs nothing but Python.
+The documents are README.md, CHANGELOG.md, tests/README.md, all of docs/ but for docs/PORT.md and docs/DESIGN-PASS.md,
+which set what is gone beside what stands for it, and for paths the comments of include/simplev.h. It prints how much it
+looked at, and what is wrong, a line each. A word in backticks that is a name of something else goes into FOREIGN, a
+path that is none of the tree's into NO_PATHS. Needs nothing but Python.
 """
 
 import collections
