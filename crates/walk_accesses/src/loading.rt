@@ -80,29 +80,21 @@ impl LoadPlan {
             outcome_of result registers.new memory.now ≡ load_unit self start }
     {
         let sides = self.sides;
-        let mut i = 0;
-        let mut j = 0;
-        let mut value = 0;
-        match sides.find(position) {
+        let (i, j, value) = match sides.find(position) {
             Pair::End => return position.ended(4),
-            Pair::Found(a, b) => {
+            Pair::Found(i, j) => {
                 let width = self.width;
-                let address = address_at(sides.source.place, self.offset, width, registers, a);
+                let address = address_at(sides.source.place, self.offset, width, registers, i);
                 if !aligned(address, width) {
-                    return position.faulted(Fault::Misaligned, address, a, b);
+                    return position.faulted(Fault::Misaligned, address, i, j);
                 }
                 match load_value(memory, address, width, self.signed) {
-                    Ok(loaded) => value = loaded,
-                    Err(Outside) => return position.faulted(Fault::Outside, address, a, b),
+                    Ok(value) => (i, j, value),
+                    Err(Outside) => return position.faulted(Fault::Outside, address, i, j),
                 }
-                i = a;
-                j = b;
             }
-            Pair::Zeroed(a, b) => {
-                i = a;
-                j = b;
-            }
-        }
+            Pair::Zeroed(i, j) => (i, j, 0),
+        };
         sides.put(position, 4, registers, i, j, value)
     }
 }

@@ -1,10 +1,11 @@
 // A store: its destination side is the address.
-ghost use Rattle.std.specs.Prelude.{◌≡◌};
+ghost use Rattle.std.specs.Prelude.{◌≡◌, ◌<◌};
 ghost use Rattle.memory.specs.Transfer.{store_answer, stored};
 ghost use Rattle.scalar.specs.Width.{bytes_of};
 ghost use Rattle.walk_operations.specs.Context.{context, outcome_of};
-ghost use Rattle.walk_transfers.specs.SidesReady.{OfRegisters, Begins, Standing};
-ghost use Rattle.walk_accesses.specs.Storing.{store_unit};
+ghost use Rattle.walk_transfers.specs.Transfer.{after_transfer};
+ghost use Rattle.walk_transfers.specs.SidesReady.{SidesReady, OfRegisters, Begins, Standing};
+ghost use Rattle.walk_accesses.specs.Storing.{store_value, store_unit};
 
 use crate::alignment::aligned;
 use crate::loading::address_at;
@@ -38,38 +39,25 @@ fn put(memory: &mut [u8], address: u64, width: Width, value: u64) -> Result<(), 
 }
 
 impl StorePlan {
-    // One element.
-    #[tactic(auto, unfolding(crate::specs::Storing::store_unit))]
-    pub fn unit(self, position: Position, registers: &[u64; REGISTERS], memory: &mut [u8]) -> Ran
-        requires sides_ready { Standing self.sides position }
-        requires registers { OfRegisters self.sides.source }
+    // A value at a pair of positions.
+    #[tactic(auto, unfolding(walk_transfers::specs::Transfer::after_transfer))]
+    fn store_at(
+        self,
+        position: Position,
+        registers: &[u64; REGISTERS],
+        memory: &mut [u8],
+        i: usize,
+        j: usize,
+        value: u64,
+    ) -> Ran
+        requires { SidesReady self.sides × (i < self.sides.vl) × (j < self.sides.vl) }
         ensures { let start = context registers.now memory.old position in
-            outcome_of result registers.now memory.new ≡ store_unit self start }
+            outcome_of result registers.now memory.new
+            ≡ after_transfer self.sides 4 start i j (store_value self start j value) }
     {
         let sides = self.sides;
-        let mut i = 0;
-        let mut j = 0;
-        let mut zeroed = false;
-        match sides.find(position) {
-            Pair::End => return position.ended(4),
-            Pair::Found(a, b) => {
-                i = a;
-                j = b;
-            }
-            Pair::Zeroed(a, b) => {
-                i = a;
-                j = b;
-                zeroed = true;
-            }
-        }
         let width = self.width;
         let address = address_at(sides.destination.place, self.offset, width, registers, j);
-        // Before the test: two instructions less on RV64.
-        let value = if zeroed {
-            0
-        } else {
-            registers[sides.source.register(i)]
-        };
         if !aligned(address, width) {
             return position.faulted(Fault::Misaligned, address, i, j);
         }
@@ -77,6 +65,22 @@ impl StorePlan {
             Ok(()) => sides.after(position, 4, i, j),
             Err(Outside) => position.faulted(Fault::Outside, address, i, j),
         }
+    }
+
+    // One element.
+    pub fn unit(self, position: Position, registers: &[u64; REGISTERS], memory: &mut [u8]) -> Ran
+        requires sides_ready { Standing self.sides position }
+        requires registers { OfRegisters self.sides.source }
+        ensures { let start = context registers.now memory.old position in
+            outcome_of result registers.now memory.new ≡ store_unit self start }
+    {
+        let sides = self.sides;
+        let (i, j, value) = match sides.find(position) {
+            Pair::End => return position.ended(4),
+            Pair::Found(i, j) => (i, j, registers[sides.source.register(i)]),
+            Pair::Zeroed(i, j) => (i, j, 0),
+        };
+        self.store_at(position, registers, memory, i, j, value)
     }
 }
 

@@ -19,21 +19,11 @@ impl Sides {
         ensures { WithAnyMemory (move_unit self)
             registers.old position result registers.new }
     {
-        let mut i = 0;
-        let mut j = 0;
-        let mut value = 0;
-        match self.find(position) {
+        let (i, j, value) = match self.find(position) {
             Pair::End => return position.ended(2),
-            Pair::Found(a, b) => {
-                i = a;
-                j = b;
-                value = registers[self.source.register(a)];
-            }
-            Pair::Zeroed(a, b) => {
-                i = a;
-                j = b;
-            }
-        }
+            Pair::Found(i, j) => (i, j, registers[self.source.register(i)]),
+            Pair::Zeroed(i, j) => (i, j, 0),
+        };
         self.put(position, 2, registers, i, j, value)
     }
 

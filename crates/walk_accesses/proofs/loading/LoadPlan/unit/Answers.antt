@@ -21,10 +21,10 @@ pub put-requires-clause-i_lt_vl : goal.put-requires-clause-i_lt_vl
 put-requires-clause-i_lt_vl c =
     let ready = c.requires.sides_ready in
     let said = sym c.find.ensures in
-    let r : Reached c.args.self.sides c.match-find.i c.match-find.j =
+    let r : Reached c.args.self.sides c.match-find.i.0 c.match-find.i.1 =
     elim c.match-find.branch [
-      | in-Found+else-not-aligned+in-Ok w ↦ reached _ _ _ _ ready.1 (rw (w.i-is, w.j-is) (inl (said ∙ w.in-Found.is)))
-      | in-Zeroed w ↦ reached _ _ _ _ ready.1 (rw (w.i-is, w.j-is) (inr (said ∙ w.in-Zeroed.is)))
+      | in-Found+else-not-aligned+in-Ok w ↦ reached _ _ _ _ ready.1 (rw w.i-is (inl (said ∙ w.in-Found.is)))
+      | in-Zeroed w ↦ reached _ _ _ _ ready.1 (rw w.i-is (inr (said ∙ w.in-Zeroed.is)))
     ] in
     (r.i_below, r.j_below, ready.0.most)
 
@@ -32,10 +32,10 @@ pub put-requires-clause-register : goal.put-requires-clause-register
 put-requires-clause-register c =
     let ready = c.requires.sides_ready in
     let said = sym c.find.ensures in
-    let r : Reached c.args.self.sides c.match-find.i c.match-find.j =
+    let r : Reached c.args.self.sides c.match-find.i.0 c.match-find.i.1 =
     elim c.match-find.branch [
-      | in-Found+else-not-aligned+in-Ok w ↦ reached _ _ _ _ ready.1 (rw (w.i-is, w.j-is) (inl (said ∙ w.in-Found.is)))
-      | in-Zeroed w ↦ reached _ _ _ _ ready.1 (rw (w.i-is, w.j-is) (inr (said ∙ w.in-Zeroed.is)))
+      | in-Found+else-not-aligned+in-Ok w ↦ reached _ _ _ _ ready.1 (rw w.i-is (inl (said ∙ w.in-Found.is)))
+      | in-Zeroed w ↦ reached _ _ _ _ ready.1 (rw w.i-is (inr (said ∙ w.in-Zeroed.is)))
     ] in
     destination_register ready.0 r c.requires.registers
 
@@ -70,11 +70,11 @@ returns c =
       | in-Found+else-not-aligned+in-Ok w ↦
           let aligned = holds w.aligned.ensures w.if-not-aligned.false in
           let value = sym w.load_value.ensures ∙ w.in-Ok.is in
-          rw (w.i-is, w.j-is, w.value-is)
+          rw w.i-is
           (unit_moved _ _ _ _ _ _ _ _ (unit_found _ _ _ _ _ _ said _ _ w.in-Found.is) _ _
           (load_element-at _ _ _ _ _ w.address_at-address.ensures ∙ where_aligned-aligned _ _ _ aligned ∙ rw value))
       | in-Zeroed w ↦
-          rw (w.i-is, w.j-is, w.value-is)
+          rw w.i-is
           (unit_moved _ _ _ _ _ _ _ _ (unit_zeroed _ _ _ _ _ _ said _ _ w.in-Zeroed.is) _ _
           (unfold zero_element in refl))
     ])

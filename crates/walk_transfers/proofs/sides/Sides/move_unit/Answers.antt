@@ -30,13 +30,13 @@ unfolding move_unit
 returns-in-End c memory = rw c.ended.ensures (unit_end _ _ _ _ _ _ c.find.ensures c.in-End.is)
 
 -- the pair, whichever it is
-met : (c : Joined-find) → Reached c.args.self c.match-find.i c.match-find.j
+met : (c : Joined-find) → Reached c.args.self c.match-find.i.0 c.match-find.i.1
 met c =
     let within = c.requires.sides_ready.1 in
     let said = sym c.find.ensures in
     elim c.match-find.branch [
-      | in-Found w ↦ reached _ _ _ _ within (rw (w.i-is, w.j-is) (inl (said ∙ w.in-Found.is)))
-      | in-Zeroed w ↦ reached _ _ _ _ within (rw (w.i-is, w.j-is) (inr (said ∙ w.in-Zeroed.is)))
+      | in-Found w ↦ reached _ _ _ _ within (rw w.i-is (inl (said ∙ w.in-Found.is)))
+      | in-Zeroed w ↦ reached _ _ _ _ within (rw w.i-is (inr (said ∙ w.in-Zeroed.is)))
     ]
 
 pub put-requires-clause-i_lt_vl : goal.put-requires-clause-i_lt_vl
@@ -54,11 +54,11 @@ returns c memory =
     rw (c.put.ensures.ran, c.put.ensures.registers)
     (elim c.match-find.branch [
       | in-Found w ↦
-          rw (w.i-is, w.j-is, w.value-is, w.register.ensures)
+          rw (w.i-is, w.register.ensures)
           (unit_moved _ _ _ _ _ _ _ _ (unit_found _ _ _ _ _ _ said _ _ w.in-Found.is) _ _
           (unfold move_element in refl))
       | in-Zeroed w ↦
-          rw (w.i-is, w.j-is, w.value-is)
+          rw w.i-is
           (unit_moved _ _ _ _ _ _ _ _ (unit_zeroed _ _ _ _ _ _ said _ _ w.in-Zeroed.is) _ _
           (unfold zero_element in refl))
     ])
