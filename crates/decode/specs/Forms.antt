@@ -1,10 +1,11 @@
 -- What the forms of 32 bits have in common, for the contracts of the code that finds it before the forms part: two
 -- register operands, of which the second is rs1. What a word is, `decoded_as` says.
-use Rattle.std.specs.Prelude.{ℕ, Bool, true, false}
+use Rattle.std.specs.Prelude.{ℕ, Bool, true, false, cond, List, Option}
 use Rattle.encoding.specs.declared.form.Form.{Form}
 use Rattle.encoding.specs.declared.form.Form.TheVariants.{Register, Immediate, Shift, WordShift}
 use Rattle.encoding.specs.declared.form.Form.TheVariants.{Load, LoadUnsigned, Store, Unknown}
 use Rattle.encoding.specs.Fields.{rd, rs2}
+use Rattle.decode.specs.Resolving.{predicate_by}
 
 -- the first operand is what is written, or a store's data
 abbrev pub first_key : Form → ℕ → ℕ
@@ -27,3 +28,7 @@ is_access (Load w) = true
 is_access (LoadUnsigned w) = true
 is_access (Store w) = true
 is_access Unknown = false
+
+-- the word of the predicate entry of rs1, where its mask counts
+abbrev pub address_predicate : Form → Option ℕ → List ℕ → ℕ
+address_predicate form held entries = cond (is_access form) (predicate_by held entries) 0

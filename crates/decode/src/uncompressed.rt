@@ -6,7 +6,7 @@ ghost use Rattle.encoding.specs.Listing.{form_of};
 ghost use Rattle.decode.specs.declared.decoded.Decoded.TheVariants.{Operation, Load};
 ghost use Rattle.decode.specs.declared.decoded.SecondOperand.TheVariants.{Immediate};
 ghost use Rattle.encoding.specs.Fields.{immediate};
-ghost use Rattle.decode.specs.Forms.{first_key, is_access};
+ghost use Rattle.decode.specs.Forms.{first_key, is_access, address_predicate};
 ghost use Rattle.decode.specs.Resolving.{resolved, predicate_by};
 ghost use Rattle.decode.specs.Decoding.{decoded_as, sources_unmasked};
 
@@ -39,7 +39,7 @@ fn is_access(form: Form) -> bool
 // The word of the predicate entry of rs1, where its mask counts.
 fn address_predicate<'a>(form: Form, lookup: Lookup<'a>, key: u8) -> u16
     ensures { let words = lookup.entry.predicates.now in
-        result ≡ cond (is_access form) (predicate_by (held_entry Predicate words lookup.entry.range key) words) 0 }
+        result ≡ address_predicate form (held_entry Predicate words lookup.entry.range key) words }
 {
     if !is_access(form) {
         return 0;

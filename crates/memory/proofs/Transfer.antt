@@ -13,15 +13,6 @@ use Rattle.memory.proofs.Bytes.{number_below, bytes_written}
 use Rattle.memory.proofs.Inside.{served}
 use Rattle.memory.proofs.Written.{written_length, number_written}
 
-pub loaded_below : (memory : List ℕ) (address n : ℕ) {value : ℕ}
-    → Bytes memory → loaded memory address n ≡ Ok value → value < 2 ^ (8 * n)
-unfolding loaded
-loaded_below memory address n {value} bytes = go (located (length memory) address n)
-  where
-    go : (a : Result ℕ Outside) → loaded_from memory n a ≡ Ok value → value < 2 ^ (8 * n)
-    go (Ok at) e = let v : number memory at n ≡ value = cc in rw v at (number_below memory at n bytes)
-    go (Err outside) e = let z : ◌≡◌ {A = ℕ} 0 1 = cc in omega arith
-
 module _ (memory : List ℕ) (address n value : ℕ) where
   -- a store keeps what every write keeps
   pub stored_keeps : (P : List ℕ → Type 0)

@@ -2,9 +2,6 @@
 use Rattle.std.proofs.Common.{◌≡◌, ℕ, ◌+◌, ◌*◌, ◌/◌, ◌%◌, ◌^◌, ◌<◌, ◌≤◌, sym, ap, ◌∙◌, lt_of_le_of_lt, mul-le-mul_right, arith, w64, Fits}
 use native.Mathlib.Nat.{add-mul-div_left, div-div-eq-div-mul, div-le_of_le-mul, mod-add-div}
 
-pub half_bound : (half n : ℕ) → half < 2 ^ 32 → half * n ≤ 0xffff_ffff * n
-half_bound half n h = mul-le-mul_right n (omega arith)
-
 pub high_fits : {a b : ℕ} → Fits w64 a → Fits w64 b → Fits w64 (a * b / 2 ^ 64)
 high_fits {b = b} h k =
     record { fits = lt_of_le_of_lt (div-le_of_le-mul (2 ^ 64) (mul-le-mul_right b (omega arith))) k.fits }

@@ -19,13 +19,6 @@ use Rattle.walk_transfers.specs.Moving.{zero_element}
 use Rattle.walk_transfers.specs.Transfer.{Transferred, refused, started}
 use Rattle.walk_transfers.proofs.TransferLaws.{walk_started}
 
--- the stride of an address has 64 bits
-pub stride_fits : (i : ℕ) (width : Width) → i < 64 → i * bytes_of width < 512
-stride_fits i Byte h = omega arith
-stride_fits i Half h = omega arith
-stride_fits i Word h = omega arith
-stride_fits i Double h = omega arith
-
 -- an access by the test of its address
 module _ (address bytes : ℕ) (served : Transferred) where
   pub where_misaligned : aligned address bytes ≡ false → where_aligned address bytes served ≡ refused Misaligned address

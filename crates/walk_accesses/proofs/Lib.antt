@@ -1,2 +1,3 @@
 pub mod Doubles
 pub mod Elements
+pub mod Kept

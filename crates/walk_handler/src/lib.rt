@@ -33,11 +33,11 @@ fn walk_word(
     match word {
         Decoded::Operation(w) => {
             let plan = operation_plan(w, vl, registers);
-            walk(plan, position, allowance, registers, memory)
+            plan.walk(position, allowance, registers)
         }
         Decoded::Move(w) => {
             let plan = move_plan(w, vl, registers);
-            plan.move_walk(position, allowance, registers, memory)
+            plan.move_walk(position, allowance, registers)
         }
         Decoded::Load(w) => {
             let plan = load_plan(w, vl, registers);

@@ -15,13 +15,8 @@ pub struct Place {
 pub fn place_of(n: ResolvedOperand) -> Place
     ensures { result ≡ place_of n }
 {
-    let operand = n.operand;
-    match operand {
-        Operand::Plain(register) => Place {
-            register: register as usize,
-            vector: false,
-        },
-        Operand::Scalar(register) => Place {
+    match n.operand {
+        Operand::Plain(register) | Operand::Scalar(register) => Place {
             register: register as usize,
             vector: false,
         },

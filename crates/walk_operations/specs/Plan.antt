@@ -7,8 +7,8 @@ use Rattle.walk_operations.specs.declared.position.Position.{Position}
 use Rattle.walk_operations.specs.Context.{Context, context, pausing}
 
 -- a fact about where an instruction stands
-abbrev pub Standing : Type 0 → Type 1
-Standing P = P → Position → Type 0
+abbrev pub OfPosition : Type 0 → Type 1
+OfPosition P = P → Position → Type 0
 
 -- what one unit does
 abbrev pub UnitOf : Type 0 → Type 0

@@ -1,11 +1,12 @@
 // An operation: one position after another.
 ghost use Rattle.std.specs.Prelude.{◌≡◌, ◌<◌};
-ghost use Rattle.walk_operations.specs.Context.{WithAnyMemory};
+ghost use Rattle.walk_pausable.specs.Walk.{walk};
+ghost use Rattle.walk_operations.specs.Context.{WithAnyMemory, pausing};
 ghost use Rattle.walk_operations.specs.Operation.{second_at, element_of, go_on, operation_unit};
 ghost use Rattle.walk_operations.specs.OperationReady.{SecondFits, OperationReady};
 
 use crate::position::{Position, Ran};
-use crate::walk::Plan;
+use crate::walk::{Plan, walk};
 use compute::compute;
 use registers::{REGISTERS, write_within};
 use scalar::operator::Operator;
@@ -87,6 +88,16 @@ impl OperationPlan {
             write_within(registers, to, 0);
         }
         go_on(self.vl, position, i)
+    }
+
+    // At most as many positions as allowed.
+    pub fn walk(self, position: Position, allowance: u16, registers: &mut [u64; REGISTERS]) -> Ran
+        requires { OperationReady self × (position.destination < self.vl) }
+        ensures { WithAnyMemory (walk pausing (operation_unit self) allowance)
+            registers.old position result registers.new }
+    {
+        let mut memory = [0u8; 0];
+        walk(self, position, allowance, registers, &mut memory)
     }
 }
 

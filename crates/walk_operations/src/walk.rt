@@ -3,7 +3,7 @@ ghost use Rattle.std.specs.Prelude.{◌≡◌, true};
 ghost use Rattle.answers.specs.Answer.{pauses};
 ghost use Rattle.walk_pausable.specs.Walk.{walk};
 ghost use Rattle.walk_operations.specs.Context.{context, outcome_of, pausing};
-ghost use Rattle.walk_operations.specs.Plan.{Standing, UnitOf, SameWalk};
+ghost use Rattle.walk_operations.specs.Plan.{OfPosition, UnitOf, SameWalk};
 
 use crate::position::{Position, Ran};
 use registers::REGISTERS;
@@ -11,9 +11,9 @@ use registers::REGISTERS;
 // An instruction whose operands are resolved and whose masks are read.
 pub trait Plan: Copy {
     // Where an instruction may stand, and where each of its units begins.
-    ghost begins: { Standing Self };
+    ghost begins: { OfPosition Self };
 
-    ghost stands: { Standing Self };
+    ghost stands: { OfPosition Self };
 
     // What a unit does.
     ghost unit_of: { UnitOf Self };

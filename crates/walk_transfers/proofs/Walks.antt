@@ -1,14 +1,19 @@
 -- What the walk of both sides keeps.
-use Rattle.std.proofs.Common.{◌≡◌, ℕ, refl}
+use Rattle.std.proofs.Common.{◌≡◌, ℕ, List, get_or, refl}
+use Rattle.registers.specs.Written.{written}
 use Rattle.answers.specs.declared.Answer.{Answer}
 use Rattle.walk_pausable.specs.Outcome.{Outcome}
 use Rattle.walk_operations.specs.declared.position.Position.{Position}
-use Rattle.walk_operations.specs.Context.{Context}
+use Rattle.walk_operations.specs.Context.{Context, ended}
+use Rattle.walk_operations.proofs.Memoryless.{Runs, Memoryless}
+use Rattle.walk_operands.specs.Place.{register_at}
+use Rattle.walk_pairs.specs.declared.Pair.{Pair}
+use Rattle.walk_pairs.specs.declared.Pair.TheVariants.{Found, Zeroed, End}
 use Rattle.walk_operations.specs.Plan.{SameWalk}
 use Rattle.walk_transfers.specs.declared.sides.Sides.{Sides}
 use Rattle.walk_transfers.specs.Moving.{move_element, zero_element, move_unit}
 use Rattle.walk_transfers.specs.SidesReady.{Begins, Standing}
-use Rattle.walk_transfers.specs.Transfer.{Element, started, transfer_unit}
+use Rattle.walk_transfers.specs.Transfer.{Element, started, pair_of, after_pair, after_transfer, at_pair, transfer_unit}
 use Rattle.walk_transfers.proofs.Standing.{started_stands, started_within}
 use Rattle.walk_transfers.proofs.TransferLaws.{unit_kept, walk_started}
 
@@ -27,3 +32,26 @@ unfolding move_unit
 move_started s p e =
     walk_started s 2 (move_element s) (zero_element s)
     (λ c i j. unfold move_element in refl) (λ c i j. unfold zero_element in refl) p e
+
+-- a move doesn't touch memory
+move_pair :
+    (s : Sides) (registers : List ℕ) (position : Position) (p : Pair) →
+    Runs (λ c. at_pair s 2 (move_element s) (zero_element s) c p) registers position
+unfolding at_pair after_transfer move_element zero_element
+move_pair s registers position End = record { ran = ended 2 position; after = registers; same = λ memory. refl }
+move_pair s registers position (Found i j) = record {
+  ran = after_pair s 2 position i j;
+  after = written registers (register_at s.destination.place j) (get_or registers (register_at s.source.place i) 0);
+  same = λ memory. refl;
+}
+move_pair s registers position (Zeroed i j) = record {
+  ran = after_pair s 2 position i j;
+  after = written registers (register_at s.destination.place j) 0;
+  same = λ memory. refl;
+}
+
+pub move_memoryless : (s : Sides) → Memoryless (move_unit s)
+unfolding move_unit transfer_unit
+move_memoryless s registers position =
+    let runs = move_pair s registers position (pair_of s position) in
+    record { ran = runs.ran; after = runs.after; same = λ memory. runs.same memory }

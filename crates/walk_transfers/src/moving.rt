@@ -1,7 +1,7 @@
 // C.MV.
 ghost use Rattle.std.specs.Prelude.{◌&&◌, ◌≡◌, ◌-◌, ◌^◌, eqb};
 ghost use Rattle.walk_pausable.specs.Walk.{walk};
-ghost use Rattle.walk_operations.specs.Context.{WithAnyMemory, context, outcome_of, pausing};
+ghost use Rattle.walk_operations.specs.Context.{WithAnyMemory, pausing};
 ghost use Rattle.walk_transfers.specs.Moving.{move_unit};
 ghost use Rattle.walk_transfers.specs.SidesReady.{OfRegisters, Begins, Standing, MoveBegins, MoveStanding};
 
@@ -43,23 +43,18 @@ impl Sides {
         position: Position,
         allowance: u16,
         registers: &mut [u64; REGISTERS],
-        memory: &mut [u8],
     ) -> Ran
         requires sides_ready { Begins self position }
         requires registers { OfRegisters self.source × OfRegisters self.destination }
-        ensures { let start = context registers.old memory.old position in
-            outcome_of result registers.new memory.new ≡ walk pausing (move_unit self) allowance start }
+        ensures { WithAnyMemory (walk pausing (move_unit self) allowance)
+            registers.old position result registers.new }
     {
+        let mut memory = [0u8; 0];
         if self.unmasked() {
-            return walk(
-                Unmasked { sides: self },
-                position,
-                allowance,
-                registers,
-                memory,
-            );
+            let plan = Unmasked { sides: self };
+            return walk(plan, position, allowance, registers, &mut memory);
         }
-        walk(self, position, allowance, registers, memory)
+        walk(self, position, allowance, registers, &mut memory)
     }
 }
 

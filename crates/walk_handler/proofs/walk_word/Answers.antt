@@ -21,12 +21,12 @@ walk-requires-in-Store c = store_ready c.requires _ c.in-Store.is c.store_plan-p
 pub returns-in-Operation : goal.returns-in-Operation
 unfolding prepared
 returns-in-Operation c =
-    walked _ _ _ c.in-Operation.is (ap operation c.operation_plan-plan.ensures) refl c.requires.2 c.walk.ensures
+    walked _ _ _ c.in-Operation.is (ap operation c.operation_plan-plan.ensures) refl c.requires.2 (c.walk.ensures c.args.memory.now)
 
 pub returns-in-Move : goal.returns-in-Move
 unfolding prepared
 returns-in-Move c =
-    walked _ _ _ c.in-Move.is (ap move c.move_plan-plan.ensures) refl c.requires.2 c.move_walk.ensures
+    walked _ _ _ c.in-Move.is (ap move c.move_plan-plan.ensures) refl c.requires.2 (c.move_walk.ensures c.args.memory.now)
 
 pub returns-in-Load : goal.returns-in-Load
 unfolding prepared
