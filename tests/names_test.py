@@ -23,7 +23,8 @@ VERBS = {
 
 # Contracts that are an expression, by the name with which it begins.
 EXPRESSIONS = {
-    "a", "funct3", "get_or", "look_up", "low_bits", "self", "set", "sign_bit", "sources_unmasked", "with_registers", "words",
+    "a", "funct3", "get_or", "look_up", "low_bits", "self", "set", "sign_bit", "sources_unmasked", "with_registers",
+    "words",
 }
 
 # One of several functions with one contract, and contracts of several clauses.

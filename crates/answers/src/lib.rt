@@ -5,6 +5,8 @@ ghost use Rattle.std.specs.Prelude.{◌≡◌};
 ghost use Rattle.answers.specs.Answer.{number_of, value_of, accepts, pauses};
 ghost use Rattle.answers.specs.Verdict.{valid, verdict};
 
+// One enum and no Result of refusals: these are the answers that the requirements list in one table, by number, and a
+// call's own answer, 0 or 7, is one of them too (`valid`, `verdict`).
 #[derive(Clone, Copy)]
 pub enum Answer {
     Done(u64),

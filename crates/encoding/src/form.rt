@@ -6,8 +6,9 @@ ghost use Rattle.encoding.specs.Listing.{form_of, look_up, funct6_rows, funct7_r
 use scalar::operator::Operator;
 use scalar::width::Width;
 
-// The forms that differ in their operands. The four of operations differ in the second one. Those with one source
-// register stand first: a call then has 40 instructions less on RV64 than with `Register` first.
+// The forms that differ in their operands, and none of them: `Unknown` is a case as it is of `Decoded`, where the
+// requirements name it. The four of operations differ in the second one. Those with one source register stand first: a
+// call then has 40 instructions less on RV64 than with `Register` first.
 #[derive(Clone, Copy)]
 pub enum Form {
     Load(Width),

@@ -9,7 +9,8 @@ use registers::{REGISTERS, write_within};
 use walk_operations::position::{Position, Ran};
 use walk_pairs::{Pair, Side, find_pair};
 
-// `single` where the instruction ends after its first element.
+// That sides are ready is asked at each use and no invariant of them: a plan is made of any word (`move_plan` and the
+// like have no `requires`). `single` where the instruction ends after its first element.
 #[derive(Clone, Copy)]
 pub struct Sides {
     pub vl: usize,
