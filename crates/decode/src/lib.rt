@@ -14,8 +14,8 @@ pub mod decoded;
 mod operand;
 mod uncompressed;
 
-// What a word is under a CFG and the two tables, which are handed on as they are to the one place that looks keys up. A word whose lowest two bits aren't 11 has 16 bits. The masks of an
-// operation's sources aren't looked for.
+// What a word is under a CFG and the two tables, which are handed on as they are to the one place that looks keys up. A
+// word whose lowest two bits aren't 11 has 16 bits. The masks of an operation's sources aren't looked for.
 pub fn decode<'a>(
     word: u32,
     cfg: u32,

@@ -12,8 +12,8 @@ use registers::REGISTERS;
 use state_word::State;
 use tables::ENTRIES;
 
-// A call that sets control words, by its own answer, what they become, and what it returns. The four arrays are no `Lent`
-// here, since one is lent to be written.
+// A call that sets control words, by its own answer, what they become, and what it returns. The four arrays are no
+// `Lent` here, since one is lent to be written.
 pub fn set_control<'a>(
     registers: &'a [u64; REGISTERS],
     control: &mut [u64; CONTROL_WORDS],

@@ -37,8 +37,8 @@ pub trait Plan: Copy {
         ensures stands { pauses result.answer ≡ true → stands self result.position };
 }
 
-// At most as many units as allowed. Registers and memory are lent apart: a struct of both would have to promise, at each
-// method, that it holds the same references.
+// At most as many units as allowed. Registers and memory are lent apart: a struct of both would have to promise at each
+// method that it holds the same references.
 pub fn walk<P: Plan>(
     plan: P,
     position: Position,
