@@ -3,6 +3,6 @@
 // Little-endian accesses of 1, 2, 4 and 8 bytes to a lent memory, at any address.
 pub mod access;
 pub mod load;
-mod read;
+pub mod read;
 pub mod store;
 mod write;

@@ -3,7 +3,7 @@ ghost use Rattle.memory.specs.Read.{Read};
 
 // The number that some bytes from a place on make, the lowest first. Where their count is known the
 // loop is unrolled, and compiles to one load.
-pub(crate) fn read(bytes: &[u8], at: usize, count: usize) -> u64
+pub fn read(bytes: &[u8], at: usize, count: usize) -> u64
     requires { (at + count ≤ length bytes.now) × (count ≤ 8) }
     ensures { Read bytes.now at count result }
 {

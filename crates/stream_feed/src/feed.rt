@@ -54,7 +54,7 @@ fn apply_and_print(
 {
     let reply = apply(*machine, record, memory);
     *machine = reply.machine;
-    put_report(out, at, matches!(record, Record::Run(..)), reply)
+    put_report(out, at, record, reply)
 }
 
 // Record after record: each search goes on from the end of the record before.
@@ -71,6 +71,7 @@ fn feed_accepted(
 {
     let mut i = 0;
     let mut written = 0;
+    // No counter: each search goes on where the one before ended. A `while let` has no measure that falls at the last.
     loop {
         let found = reader.find(piece, i);
         reader = found.reader;

@@ -1,4 +1,3 @@
-pub mod Fields
 pub mod Layouts
 pub mod Next
 pub mod Readers

@@ -2,9 +2,6 @@
 
 // Record streams: one byte of kind, then a body whose length the kind fixes.
 
-// A number of some bytes.
-mod field;
-
 // The kinds, and what their bodies hold.
 pub mod kind;
 

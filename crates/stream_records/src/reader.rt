@@ -7,12 +7,13 @@ use crate::record::{NoRecord, Record, next_record};
 // The bytes of a record that has not ended, and where in the stream it begins.
 #[derive(Clone, Copy)]
 pub struct Reader {
+    // Bytes and their length as two fields: memory is fixed, with no heap, and `Ready` and `progress_of` speak of them.
     pub kept: [u8; 11],
     pub length: usize,
     pub offset: u64,
-    // An unknown kind was met, at that offset.
+    // An unknown kind was met, at that offset: a flag, since `Progress` has it.
     pub stopped: bool,
-    // Run records are served.
+    // Run records are served: a flag, since `Progress` has it.
     pub runs: bool,
 }
 

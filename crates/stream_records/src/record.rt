@@ -2,8 +2,8 @@ ghost use Rattle.std.specs.Prelude.{◌≡◌};
 ghost use Rattle.stream_records.specs.declared.record.NoRecord.TheVariants.{Unknown};
 ghost use Rattle.stream_records.specs.Record.{next_record};
 
-use crate::field::field;
 use crate::kind::{Kind, UnknownKind};
+use memory::read::read;
 
 #[derive(Clone, Copy)]
 pub enum Record {
@@ -53,7 +53,7 @@ pub fn next_record(runs: bool, bytes: &[u8], at: usize) -> Result<(Record, usize
         return Err(NoRecord::Cut);
     }
     let middle = body + fields.first;
-    let first = field(bytes, body, fields.first);
-    let second = field(bytes, middle, fields.second);
+    let first = read(bytes, body, fields.first);
+    let second = read(bytes, middle, fields.second);
     Ok((kind.record(first, second), middle + fields.second))
 }

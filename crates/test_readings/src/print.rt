@@ -1,4 +1,4 @@
-// What is printed of the readings.
+// What is printed of the readings. Each function prints by what came before it, not one value, so none is a Display.
 use test_reading_lines::line::{Answered, Line};
 use test_reading_lines::tally::{Outcome, Tally};
 
