@@ -67,6 +67,7 @@ impl Machine {
         self.set_state(good_word(word), State::from(word).cut())
     }
 
+    // This call and the next differ in the table and in what they refuse.
     #[tactic(auto, unfolding(crate::specs::Setting::set_register_entry))]
     pub fn set_register_entry(self, index: u32, entry: u16) -> Reply
         ensures { result ≡ set_register_entry self index entry }

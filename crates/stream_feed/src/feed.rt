@@ -87,8 +87,8 @@ fn feed_accepted(
     }
 }
 
-// Takes a piece of a stream, and writes what it prints. It is refused, and
-// nothing is done, where `out` might be too short.
+// Takes a piece of a stream, and writes what it prints. It is refused, and nothing is done, where `out` might be too
+// short. Reader and machine are two parameters: `finish` takes them too, and callers look into each.
 #[tactic(auto, unfolding(crate::specs::Feed::fed_into))]
 pub fn feed(
     reader: Reader,

@@ -38,7 +38,8 @@ impl From<UnknownKind> for NoRecord {
     }
 }
 
-// The record at a place, and the place after it, where run records are served or not.
+// The record at a place, and the place after it, where run records are served or not. The theorems on records speak of
+// the place, so that it is passed and no slice.
 #[tactic(auto, using(crate::proofs::Layouts::small), unfolding(crate::specs::Record::next_record, crate::specs::Record::body_at))]
 pub fn next_record(runs: bool, bytes: &[u8], at: usize) -> Result<(Record, usize), NoRecord>
     ensures { result ≡ next_record runs bytes.now at }

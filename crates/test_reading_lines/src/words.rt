@@ -38,7 +38,7 @@ pub(crate) fn words_of(line: &[u8]) -> Words<'_>
 }
 
 impl<'a> Words<'a> {
-    // The next word, which is empty at the end of the line.
+    // The next word, which is empty at the end of the line, as `word_at` of the definitions is.
     pub(crate) fn next(&mut self) -> &'a [u8]
         ensures word { result.now ≡ word_at 0 self.old }
         ensures rest { self.new ≡ drop 1 self.old }

@@ -4,7 +4,8 @@ use crate::print::{print_end, print_outcome};
 use test_reading_lines::line::{Answered, Line, line_of};
 use test_reading_lines::tally::{Tally, outcome_of};
 
-// A line's call made, where it is one, and its answer compared.
+// A line's call made, where it is one, and its answer compared. Another line has an answer too, at which `outcome_of`
+// doesn't look.
 fn run_line(rt: &impl Print, bench: &mut Bench, tally: &mut Tally, text: &[u8]) {
     let line = line_of(text);
     let came = match line {

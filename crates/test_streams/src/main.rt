@@ -29,6 +29,7 @@ fn run_argument(rt: &(impl Files + Print + Eprint), path: &[u8]) {
 }
 
 // With no heap each argument is read into a buffer.
+// What is said of an argument that can't be read is each program's own.
 fn main(rt: HostRuntime) {
     for i in 1..usize::MAX {
         let mut path = [0u8; 4096];

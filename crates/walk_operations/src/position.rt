@@ -4,6 +4,7 @@ ghost use Rattle.walk_operations.specs.Context.{at_offsets, fault_answer, paused
 
 use answers::Answer;
 
+// The two offsets are handed on as two numbers: a struct of a pair would be taken apart at each use.
 #[derive(Clone, Copy)]
 pub struct Position {
     pub pc: u64,

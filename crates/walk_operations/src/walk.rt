@@ -18,7 +18,7 @@ pub trait Plan: Copy {
     // What a unit does.
     ghost unit_of: { UnitOf Self };
 
-    // Where the first unit begins.
+    // Where the first unit begins. No default: the trait has no sides by which three of the plans go.
     fn start(self, position: Position) -> Position
         requires { begins self position }
         ensures stands { stands self result }

@@ -14,6 +14,7 @@ use walk_operations::operation::{OperationPlan, SecondPlace};
 use walk_pairs::Side;
 use walk_transfers::sides::Sides;
 
+// An operand without an entry has predicate word 0, the empty entry of the requirements, and `mask_by` takes it so.
 fn second_plan(second: word::SecondOperand) -> SecondPlace
     ensures { result ≡ second_plan second }
 {
