@@ -109,8 +109,8 @@ fn six(words: [u64; CONTROL_WORDS]) -> [u64; CONTROL_WORDS]
     words
 }
 
-// By the four arrays as they are lent. Whether they have their lengths, as they always do: a theorem that takes these as
-// a premise has them here.
+// By the four arrays as they are lent. Whether they have their lengths, as they always do: a theorem that takes these
+// as a premise has them here.
 pub fn sized<'a>(
     registers: &'a [u64; REGISTERS],
     control: &'a [u64; CONTROL_WORDS],
