@@ -40,7 +40,7 @@
  *  - Stack: at most 224 bytes, without those of memset. tools/rv64 prints it for other flags.
  *  - Time, counted over states chosen to be bad. docs/BENCHMARKS.md says how, and how to choose an allowance for an
  *    interrupt latency.
- *   allowance 0, 1, 4, 16, VL: at most 770, 1490, 1694, 2510, 5948 instructions
+ *   allowance 0, 1, 4, 16, VL: at most 766, 1481, 1664, 2396, 5498 instructions
  *
  * Memory that begins elsewhere. Addresses begin at 0: an access at address a is to memory[a]. RAM that begins at BASE,
  * 0x80000000, say, or a part of it, is lent by a pointer to its first byte and its length, and during a call the
