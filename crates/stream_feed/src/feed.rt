@@ -71,7 +71,7 @@ fn feed_accepted(
 {
     let mut i = 0;
     let mut written = 0;
-    // No counter: each search goes on where the one before ended. A `while let` has no measure that falls at the last.
+    // No counter: each search goes on where the one before ended. A `while let` would hold all of it in its condition.
     loop {
         let found = reader.find(piece, i);
         reader = found.reader;

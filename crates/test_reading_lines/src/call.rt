@@ -61,7 +61,7 @@ const MAX16: u64 = u16::MAX as u64;
 const MAX32: u64 = u32::MAX as u64;
 
 impl Setting {
-    // By name, an Option, as the other `of`s below: there is nothing to say of another name.
+    // By name, an Option and no TryFrom, as in each `of` below: there is nothing to say of another name.
     fn of(name: &[u8]) -> Option<Setting>
         ensures { result ≡ setting_of name.now }
     {

@@ -27,8 +27,7 @@ impl fmt::Display for Answered {
 #[derive(Clone, Copy)]
 pub struct CallLine {
     pub call: Call,
-    // 0 where a call takes none: one line of code reads all calls' by their limits. With arguments in each case of
-    // `Call` each would be read by its own.
+    // 0 where a call takes none: the same code reads all calls' by their limits. In `Call`'s cases each needs its own.
     pub first: u64,
     pub second: u64,
     pub expected: Answered,
