@@ -1,15 +1,15 @@
 -- Laws of loads and stores.
 use mathlib.Core.Path.{◌≡◌, refl}
 use mathlib.Core.List.{List}
-use Prim.Native.Nat.{ℕ, ◌*◌, ◌%◌, ◌^◌, ◌<◌}
+use Prim.Native.Nat.{ℕ, ◌*◌, ◌%◌, ◌^◌}
 use native.Mathlib.Omega.{arith}
 use lib.ListN.{length}
 use Rattle.std.specs.Prelude.{Result, Ok, Err}
 use Rattle.memory.specs.declared.access.Outside.{Outside}
 use Rattle.memory.specs.Access.{located}
-use Rattle.memory.specs.LittleEndian.{Bytes, number, written}
+use Rattle.memory.specs.LittleEndian.{Bytes, written}
 use Rattle.memory.specs.Transfer.{loaded_from, loaded, answer_to, store_answer, written_to, stored}
-use Rattle.memory.proofs.Bytes.{number_below, bytes_written}
+use Rattle.memory.proofs.Bytes.{bytes_written}
 use Rattle.memory.proofs.Inside.{served}
 use Rattle.memory.proofs.Written.{written_length, number_written}
 

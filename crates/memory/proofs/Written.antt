@@ -2,13 +2,12 @@
 use mathlib.Core.Path.{◌≡◌, refl, sym, ◌∙◌}
 use mathlib.Core.List.{List}
 use Prim.Native.Nat.{ℕ, zero, suc, ◌+◌, ◌*◌, ◌/◌, ◌%◌, ◌^◌, ◌<◌, ◌≤◌}
-use native.Mathlib.Nat.{zero-add, add-zero, suc-add, div-one, mod-one, div-div-eq-div-mul}
+use native.Mathlib.Nat.{mod-one}
 use native.Mathlib.Omega.{arith}
 use lib.ListN.{length, get_or, set, length-set}
 use lib.Pow.{mod-pow-add}
 use lib.Seq.{get_or-set_same, get_or-set_other}
 use Rattle.memory.specs.LittleEndian.{number, written}
-use Rattle.memory.proofs.Power.{power_suc}
 
 -- a byte, then the bytes above it
 pub write_more :

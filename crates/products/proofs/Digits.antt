@@ -1,5 +1,5 @@
 -- The halves of a product of natural numbers, by the halves and digits of its factors.
-use Rattle.std.proofs.Common.{◌≡◌, ℕ, ◌+◌, ◌*◌, ◌/◌, ◌%◌, ◌^◌, ◌<◌, ◌≤◌, sym, ap, ◌∙◌, lt_of_le_of_lt, mul-le-mul_right, arith, w64, Fits}
+use Rattle.std.proofs.Common.{◌≡◌, ℕ, ◌+◌, ◌*◌, ◌/◌, ◌%◌, ◌^◌, sym, ap, ◌∙◌, lt_of_le_of_lt, mul-le-mul_right, arith, w64, Fits}
 use native.Mathlib.Nat.{add-mul-div_left, div-div-eq-div-mul, div-le_of_le-mul, mod-add-div}
 
 pub high_fits : {a b : ℕ} → Fits w64 a → Fits w64 b → Fits w64 (a * b / 2 ^ 64)

@@ -1,12 +1,10 @@
 -- Machines and arrays determine each other, and words in range are their low bits.
-use Prim.Native.Nat.{ℕ, ◌≤◌, ◌<◌, ◌%◌, ◌^◌}
+use Prim.Native.Nat.{ℕ, ◌≤◌, ◌%◌, ◌^◌}
 use mathlib.Core.Path.{◌≡◌, refl, ◌∙◌}
 use mathlib.Core.Bool.{true}
 use mathlib.Core.List.{List, [], ◌∷◌}
-use lib.ListN.{get_or}
 use native.Mathlib.Nat.{mod-eq_of_lt}
 use native.Mathlib.Omega.{arith}
-use borrow.Author.Tests.{lt-ltb, le-ltb}
 use Rattle.state_word.specs.declared.State.{State}
 use Rattle.state_word.specs.State.{state_in_shape}
 use Rattle.state_word.proofs.States.{bounds}

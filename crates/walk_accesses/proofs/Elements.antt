@@ -1,8 +1,6 @@
 -- What a load and a store move at a pair, by the test of the address.
-use Rattle.std.proofs.Common.{◌≡◌, ℕ, ◌*◌, ◌<◌, true, false, refl, ap, arith}
+use Rattle.std.proofs.Common.{◌≡◌, ℕ, true, false, refl, ap}
 use Rattle.memory.specs.Transfer.{store_answer}
-use Rattle.scalar.specs.declared.width.Width.{Width}
-use Rattle.scalar.specs.declared.width.Width.TheVariants.{Byte, Half, Word, Double}
 use Rattle.scalar.specs.Width.{bytes_of}
 use Rattle.walk_accesses.specs.declared.loading.LoadPlan.{LoadPlan}
 use Rattle.walk_accesses.specs.declared.storing.StorePlan.{StorePlan}

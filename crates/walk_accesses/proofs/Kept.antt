@@ -6,7 +6,6 @@ use Rattle.walk_pausable.specs.Walk.{walk}
 use Rattle.walk_pausable.proofs.Invariant.{walk_keeps}
 use Rattle.walk_pairs.specs.declared.Pair.{Pair}
 use Rattle.walk_pairs.specs.declared.Pair.TheVariants.{Found, Zeroed, End}
-use Rattle.walk_operations.specs.declared.position.Fault.TheVariants.{Misaligned}
 use Rattle.walk_operations.specs.Context.{Context, pausing}
 use Rattle.walk_transfers.specs.declared.sides.Sides.{Sides}
 use Rattle.walk_transfers.specs.Moving.{zero_element}

@@ -1,8 +1,8 @@
 -- Work that doesn't touch memory: what it does with one memory it does with every other.
-use Rattle.std.proofs.Common.{◌≡◌, ℕ, zero, suc, Bool, true, false, cond, List, [], refl, sym, ◌∙◌, ap}
+use Rattle.std.proofs.Common.{◌≡◌, ℕ, zero, suc, Bool, true, false, List, refl, sym, ◌∙◌, ap}
 use Rattle.answers.specs.Answer.{pauses}
 use Rattle.answers.specs.declared.Answer.{Answer}
-use Rattle.walk_pausable.specs.Outcome.{Outcome, if_paused}
+use Rattle.walk_pausable.specs.Outcome.{Outcome}
 use Rattle.walk_pausable.specs.Walk.{walk}
 use Rattle.walk_operations.specs.declared.position.Position.{Position}
 use Rattle.walk_operations.specs.declared.position.Ran.{Ran}

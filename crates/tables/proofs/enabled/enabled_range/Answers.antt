@@ -1,6 +1,5 @@
-use Prim.Native.Nat.{◌/◌, ◌%◌}
 use native.Mathlib.Omega.{arith}
-use Rattle.tables.proofs.Ranges.{range_none, range_some, power}
+use Rattle.tables.proofs.Ranges.{range_none, range_some}
 use Rattle.tables.proofs.enabled.enabled_range.Goals as goal
 
 pub returns-then-cfg-eq31 : goal.returns-then-cfg-eq31

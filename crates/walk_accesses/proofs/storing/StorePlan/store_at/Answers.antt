@@ -1,4 +1,4 @@
-use Rattle.std.proofs.Common.{◌<◌, sym, ◌∙◌, arith}
+use Rattle.std.proofs.Common.{sym, ◌∙◌, arith}
 use Rattle.bits.proofs.Booleans.{fails, holds}
 use Rattle.memory.proofs.Transfer.{stored_outside}
 use Rattle.walk_operands.proofs.Fits.{fits_at}
