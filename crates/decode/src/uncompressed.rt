@@ -1,5 +1,5 @@
 // The words of 32 bits.
-ghost use Rattle.std.specs.Prelude.{◌≡◌, cond};
+ghost use Rattle.std.specs.Prelude.{◌≡◌};
 ghost use Rattle.search.specs.Search.{held_entry};
 ghost use Rattle.search.specs.declared.Table.TheVariants.{Predicate};
 ghost use Rattle.encoding.specs.Listing.{form_of};

@@ -1,6 +1,5 @@
 ghost use Rattle.std.specs.Prelude.{◌≡◌, ◌%◌};
-ghost use Rattle.std.specs.Int.{w8, w16, w32, w64};
-ghost use Rattle.std.proofs.Common.{to_z, of_z};
+ghost use Rattle.std.specs.Int.{w32, w64};
 ghost use Rattle.scalar.specs.Signed.{signed_less, low_word, arithmetic_shift, sign_extended};
 ghost use Rattle.scalar.specs.declared.width.Width.TheVariants.{Word};
 
