@@ -26,19 +26,23 @@ PRINTED = (ROOT / "crates" / "runner" / "stdout").read_bytes()
 TEXT = b"reg x7 10\nrun addi x7,x7,1\n"
 TEXT_PRINTED = b"0 4 0 0\nx7 11\n"
 
-# Writes a line when it begins and one when it ends, and builds the runner. It takes its time with one crate.
+# Writes a line when it begins and one when it ends, and builds the runner. With one crate it stays at work for as long
+# as there is a file named hold, so that no test goes by how fast a machine is.
 STAND_IN = """#!/bin/sh
 crate=${PWD##*/}
-echo "begin $* in $crate" >> "$STAND_IN/calls"
 mkdir "$STAND_IN/busy" 2> /dev/null || echo overlap >> "$STAND_IN/calls"
+echo "begin $* in $crate" >> "$STAND_IN/calls"
 cat > /dev/null # it may read what it is given
-[ "$crate" != answers ] || sleep "${STAND_IN_SECONDS:-0}"
+while [ "$crate" = answers ] && [ -e "$STAND_IN/hold" ]; do sleep 0.05; done
 mkdir -p out
 [ "$1" != run ] || cp "$STAND_IN/runner" out/runner
 rmdir "$STAND_IN/busy"
 echo "end $* in $crate" >> "$STAND_IN/calls"
 [ -z "$STAND_IN_FAILS" ] || [ "$crate" != answers ] || { echo "answers NOT PROVED"; exit 1; }
 """
+
+# What a script says that finds the lock held.
+WAITS = b"run: waits for another script that proves in this tree"
 
 # A line that calls the toolchain, and is no comment.
 TOOLCHAIN = re.compile(r"^(?!.*#.*\brt\b).*(?:^|[ ;|&])rt (?:\"|check|ci|must-fail|lib|run|test|all)", re.M)
@@ -60,6 +64,15 @@ def ended(process, data=None):
     except subprocess.TimeoutExpired:
         process.kill()
         sys.exit(f"run_test: no end: {process.args}")
+
+
+def awaited(what, holds):
+    """Goes on when it holds."""
+    end = time.monotonic() + 60
+    while not holds():
+        if time.monotonic() > end:
+            sys.exit(f"run_test: not so after a minute: {what}")
+        time.sleep(0.05)
 
 
 class Tree:
@@ -86,11 +99,29 @@ class Tree:
         """Takes the runner away, so that the next ./run proves."""
         (self.root / "target" / "bin" / "runner").unlink(missing_ok=True)
 
+    def hold(self):
+        """From now on the stand-in stays at work with one crate."""
+        self.forget()
+        (self.aside / "calls").write_text("")
+        (self.aside / "hold").touch()
+
+    def let_go(self):
+        (self.aside / "hold").unlink()
+
+    def is_held(self):
+        return self.calls()[-1:] == ["begin lib in answers"]
+
     def start(self, *words, script=None, **options):
         environment = {**self.environment, **options.pop("environment", {})}
         options = {"stdin": subprocess.DEVNULL, "stdout": subprocess.PIPE, "stderr": subprocess.PIPE,
                    "cwd": self.folder, **options}
         return subprocess.Popen([script or self.root / "run", *words], env=environment, **options)
+
+    def start_into(self, name, *words, **options):
+        """The process, and the file with what it says."""
+        path = self.folder / name
+        with open(path, "wb") as file:
+            return self.start(*words, stderr=file, **options), path
 
     def run(self, *words, data=None, **options):
         """Status, output, what was said, and the calls of the toolchain."""
@@ -225,12 +256,15 @@ def statuses(tree):
 
 
 def at_once(tree, count):
-    (tree.aside / "calls").write_text("")
-    tree.forget()
-    slow = {"STAND_IN_SECONDS": "1"}
-    processes = [tree.start(environment=slow) for _ in range(count)]
-    seen = [ended(process) for process in processes]
-    check(f"{count} at once print the same", all(out == PRINTED for out, _ in seen), *seen)
+    tree.hold()
+    processes, said = zip(*[tree.start_into(f"said {number}") for number in range(count)])
+
+    def waiting():
+        return [WAITS in one.read_bytes() for one in said].count(True)
+    awaited(f"all but one of {count} say that they wait", lambda: tree.is_held() and waiting() == count - 1)
+    tree.let_go()
+    seen = [ended(process)[0] for process in processes]
+    check(f"{count} at once print the same", all(out == PRINTED for out in seen), *seen)
     check(f"{count} at once end with 0", all(process.returncode == 0 for process in processes))
     calls = tree.calls()
     begun = [call.removeprefix("begin ") for call in calls[0::2]]
@@ -238,8 +272,7 @@ def at_once(tree, count):
     proved = {call.removeprefix("lib in ") for call in begun[:-1]}
     check("each crate below the runner once, and then it", len(proved) == len(begun) - 1 and
           proved < set(tree.crates) and begun[-1] == "run in runner", calls)
-    said = [b"run: waits for another script that proves in this tree" in one for _, one in seen]
-    check("all but one say that they wait", said.count(False) == 1, *seen)
+    check("all but one say that they wait", waiting() == count - 1)
 
 
 def lock(tree):
@@ -251,9 +284,9 @@ def lock(tree):
         seen = tree.run(environment={"WRENCOBBLE_LOCKED": str(tree.root)})
         check("a script of the one that holds the lock doesn't wait", seen[0] == 0 and not seen[2], *seen)
         tree.forget()
-        other = tree.start(environment={"WRENCOBBLE_LOCKED": "/"})
-        time.sleep(0.5)
-        check("a lock of another tree is not this one's", other.poll() is None)
+        other, said = tree.start_into("said", environment={"WRENCOBBLE_LOCKED": "/"})
+        awaited("a lock of another tree is not this one's", lambda: WAITS in said.read_bytes())
+        check("it waits", other.poll() is None)
     check("it goes on when the lock is free", ended(other)[0] == PRINTED)
     reading = tree.start("-", stdin=subprocess.PIPE)
     reading.stdin.write(STREAM)
@@ -266,14 +299,15 @@ def interrupted(tree):
     """Control-C while it proves: it ends, leaves no file, and the lock is free."""
     kept = tree.folder / "kept"
     kept.mkdir()
-    tree.forget()
+    tree.hold()
     # the signal is ignored where this test was started in the background
     process = tree.start(start_new_session=True, preexec_fn=lambda: signal.signal(signal.SIGINT, signal.SIG_DFL),
-                         environment={"STAND_IN_SECONDS": "30", "TMPDIR": str(kept)})
-    time.sleep(1)
-    check("it is at work", process.poll() is None and list(kept.iterdir()))
+                         environment={"TMPDIR": str(kept)})
+    awaited("it is at work", tree.is_held)
+    check("it has files", process.poll() is None and list(kept.iterdir()))
     os.killpg(process.pid, signal.SIGINT)
     _, said = ended(process)
+    tree.let_go()
     check("an interrupt ends it", process.returncode == 130, process.returncode, said)
     check("it leaves no file", not list(kept.iterdir()), *kept.iterdir())
     (tree.aside / "busy").rmdir()
@@ -281,10 +315,14 @@ def interrupted(tree):
 
 
 def progress(tree):
-    tree.forget()
-    _, _, said, _ = tree.run(environment={"STAND_IN_SECONDS": "3.5"})
-    found = re.fullmatch(r"run: proving answers \((\d+) of (\d+) are proved\)\n", said)
-    check("the crate at hand is said", found and 0 < int(found[1]) < int(found[2]) < len(tree.crates), said)
+    tree.hold()
+    process, said = tree.start_into("said")
+    awaited("the crate at hand is said", lambda: said.read_text().endswith("\n"))
+    check("it is", tree.is_held(), *tree.calls())
+    tree.let_go()
+    ended(process)
+    found = re.fullmatch(r"run: proving answers \((\d+) of (\d+) are proved\)\n", said.read_text())
+    check("and it alone", found and 0 < int(found[1]) < int(found[2]) < len(tree.crates), said.read_text())
 
 
 def every_script_locks():
