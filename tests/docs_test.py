@@ -84,7 +84,7 @@ def matching(pattern):
 
 IDENTIFIER = r"[A-Za-z_][\w'-]*"
 ANTT = re.compile(r"(\s*)((?:(?:abbrev|unfoldable|pub)\s+)*)(record\s+|data\s+|mod\s+|)([^\s:(){}]+)(.*)")
-RUST_ITEM = re.compile(r"(?<!\*)\b(?:fn|struct|enum|const|static|mod|type)\s+(\w+)")
+RUST_ITEM = re.compile(r"(?<!\*)\b(?:fn|struct|enum|trait|const|static|mod|type)\s+(\w+)")
 RUST_BLOCK = re.compile(r"(?:pub(?:\(crate\))?\s+)?(?:impl|struct|enum)\s+(\w+).*\{$")
 RUST_MEMBER = re.compile(r"\s{4}(?:pub(?:\(crate\))?\s+)?(?:fn\s+|const\s+)?(\w+)\s*(?:[:(,<{]|$)")
 RUST_PARAMETER = re.compile(r"[(,\s](\w+): ")

@@ -1,17 +1,27 @@
 -- Laws of loads and stores.
 use mathlib.Core.Path.{◌≡◌, refl}
 use mathlib.Core.List.{List}
-use Prim.Native.Nat.{ℕ, ◌*◌, ◌%◌, ◌^◌}
+use Prim.Native.Nat.{ℕ, ◌*◌, ◌%◌, ◌^◌, ◌<◌}
 use native.Mathlib.Omega.{arith}
 use lib.ListN.{length}
 use Rattle.std.specs.Prelude.{Result, Ok, Err}
 use Rattle.memory.specs.declared.access.Outside.{Outside}
 use Rattle.memory.specs.Access.{located}
-use Rattle.memory.specs.LittleEndian.{Bytes, written}
+use Rattle.memory.specs.LittleEndian.{Bytes, number, written}
 use Rattle.memory.specs.Transfer.{loaded_from, loaded, answer_to, store_answer, written_to, stored}
-use Rattle.memory.proofs.Bytes.{bytes_written}
+use Rattle.memory.proofs.Bytes.{number_below, bytes_written}
 use Rattle.memory.proofs.Inside.{served}
 use Rattle.memory.proofs.Written.{written_length, number_written}
+
+-- a load of n bytes gives a number that they can hold
+pub loaded_below : (memory : List ℕ) (address n : ℕ) {value : ℕ}
+    → Bytes memory → loaded memory address n ≡ Ok value → value < 2 ^ (8 * n)
+unfolding loaded
+loaded_below memory address n {value} bytes = go (located (length memory) address n)
+  where
+    go : (a : Result ℕ Outside) → loaded_from memory n a ≡ Ok value → value < 2 ^ (8 * n)
+    go (Ok at) e = let v : number memory at n ≡ value = cc in rw v at (number_below memory at n bytes)
+    go (Err outside) e = let z : ◌≡◌ {A = ℕ} 0 1 = cc in omega arith
 
 module _ (memory : List ℕ) (address n value : ℕ) where
   -- a store keeps what every write keeps

@@ -1,13 +1,14 @@
--- Memory after a write: from its bytes, its length, and each byte's content.
+-- Memory after a write: from its bytes, from those below and above, its length, and each byte's content.
 use mathlib.Core.Path.{◌≡◌, refl, sym, ◌∙◌}
 use mathlib.Core.List.{List}
 use Prim.Native.Nat.{ℕ, zero, suc, ◌+◌, ◌*◌, ◌/◌, ◌%◌, ◌^◌, ◌<◌, ◌≤◌}
-use native.Mathlib.Nat.{mod-one}
+use native.Mathlib.Nat.{zero-add, add-zero, suc-add, div-one, mod-one, div-div-eq-div-mul}
 use native.Mathlib.Omega.{arith}
 use lib.ListN.{length, get_or, set, length-set}
 use lib.Pow.{mod-pow-add}
 use lib.Seq.{get_or-set_same, get_or-set_other}
 use Rattle.memory.specs.LittleEndian.{number, written}
+use Rattle.memory.proofs.Power.{power_suc}
 
 -- a byte, then the bytes above it
 pub write_more :
@@ -15,6 +16,18 @@ pub write_more :
     written (set memory at (value % 256)) (at + 1) n (value / 256) ≡ written memory at (n + 1) value
 unfolding written
 write_more memory at n value = let e : n + 1 ≡ suc n = omega arith in rw e refl
+
+-- m bytes, then n bytes above them
+pub written_join :
+    (memory : List ℕ) (address m n value : ℕ) →
+    written memory address (m + n) value
+    ≡ written (written memory address m value) (address + m) n (value / 2 ^ (8 * m))
+unfolding written
+written_join memory address zero n value = rw (zero-add, add-zero, div-one)
+written_join memory address (suc m) n value =
+    let step : (address + 1) + m ≡ address + suc m = omega arith in
+    rw (suc-add, power_suc m, ← div-div-eq-div-mul value 256 (2 ^ (8 * m)), ← step)
+    (written_join (set memory address (value % 256)) (address + 1) m n (value / 256))
 
 pub written_length : (memory : List ℕ) (address n value : ℕ) → length (written memory address n value) ≡ length memory
 unfolding written

@@ -44,8 +44,12 @@ unfoldable pub setting_text : Answer → List ℕ
 setting_text a = cond (accepts a) [] (refused_line (number_of a))
 
 abbrev pub is_run : Record → Bool
+is_run (RegisterEntry i entry) = false
+is_run (PredicateEntry i entry) = false
+is_run (StateWord word) = false
+is_run (Register i value) = false
 is_run (Run word allowance) = true
-is_run _ = false
+is_run (Memory address value) = false
 
 -- For a run answer, program counter, source and destination offset, whatever the answer.
 unfoldable pub report_text : Bool → Answer → ℕ → ℕ → ℕ → List ℕ

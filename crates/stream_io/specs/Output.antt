@@ -32,8 +32,16 @@ pub record Reached (s : Stream) (written : ℕ) : Type 0 where
 abbrev pub fresh_session : Session
 fresh_session = record { reader = fresh_reader; machine = fresh_machine; memory = replicate 4096 0; written = 0 }
 
+abbrev pub session_stream : Session → Stream
+session_stream s = stream_of s.reader s.machine s.memory
+
 abbrev pub SessionReached : Session → Type 0
-SessionReached s = Reached (stream_of s.reader s.machine s.memory) s.written
+SessionReached s = Reached (session_stream s) s.written
+
+-- a piece is fed, and what it prints counted
+pub record FedBy (s : Session) (piece : List ℕ) (s' : Session) : Type 0 where
+  pub stream : session_stream s' ≡ (fed (session_stream s) piece).stream
+  pub count : s'.written ≡ s.written + length (fed (session_stream s) piece).text
 
 -- a turn leads on, or ends with the whole output
 pub record Turned (t : Result (ControlFlow ℕ (Unit {0})) Stopped) (s : Session) : Type 0 where

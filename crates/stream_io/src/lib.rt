@@ -5,7 +5,7 @@ ghost use Rattle.std.specs.Prelude.{◌≡◌, OnOk};
 ghost use Rattle.std.specs.Io.{ReadsAtMost};
 ghost use Rattle.stream_records.specs.Reader.{progress_of};
 ghost use Rattle.stream_feed.specs.Stream.{last_text};
-ghost use Rattle.stream_io.specs.Output.{Next, Sends, Whole, fresh_session, SessionReached, Turned};
+ghost use Rattle.stream_io.specs.Output.{Next, Sends, Whole, fresh_session, SessionReached, FedBy, Turned};
 
 use failures::Failure;
 use machine::Machine;
@@ -99,7 +99,7 @@ impl Session {
         out: &mut [u8],
     ) -> Result<(), Stopped>
         requires { SessionReached self.old }
-        ensures { OnOk result (SessionReached self.new) }
+        ensures { OnOk result (FedBy self.old piece.now self.new) }
     {
         let Ok(fed) = feed(self.reader, self.machine, piece, &mut self.memory, out) else {
             return Err(say_no_room(rt));

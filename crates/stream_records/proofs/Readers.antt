@@ -7,7 +7,7 @@ use mathlib.Core.Path.{◌≡◌, sym, ◌∙◌}
 use mathlib.Core.Bool.{Bool, true, false}
 use mathlib.Core.List.{List, [], ◌∷◌, ◌++◌}
 use lib.ListN.{length, get_or, set, take, drop, length-set, drop_of_length-le}
-use lib.Seq.{take-suc-set, take-set-le, length-take-le, drop-cons, drop-length}
+use lib.Seq.{take-suc-set, take-set-le, length-take-le, drop-cons}
 use Rattle.std.specs.Prelude.{Option, Some, None, Ok, Err}
 use Rattle.stream_records.specs.Record.{Next, next_record}
 use Rattle.stream_records.specs.Progress.{taken_by, taken, Search, searched, first_of, found}
@@ -98,9 +98,11 @@ module _ (r : Reader) (piece : List ℕ) (i : ℕ) where
   abbrev pub first : Search
   first = found (progress_of r) (drop i piece)
 
-  pub found_none : length piece ≤ i → searched None (progress_of r) (drop (length piece) piece) ≡ first
+  -- also from any other place past the end
+  pub found_none :
+      {k : ℕ} → length piece ≤ i → length piece ≤ k → searched None (progress_of r) (drop k piece) ≡ first
   unfolding found
-  found_none h = rw (drop_of_length-le piece h, drop-length piece)
+  found_none h e = rw (drop_of_length-le piece h, drop_of_length-le piece e)
 
 module _ (r : Reader) (piece : List ℕ) (i : ℕ) (t : Option Record) (r' : Reader) (inside : i < length piece)
     (taking : Taking r (get_or piece i 0) t r')

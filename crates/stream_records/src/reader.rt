@@ -97,7 +97,7 @@ impl Reader {
         Found {
             whole: None,
             reader: self,
-            at: piece.len(),
+            at: from.max(piece.len()),
         }
     }
 }

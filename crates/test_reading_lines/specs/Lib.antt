@@ -1,5 +1,6 @@
 pub mod Calls
 pub mod Line
 pub mod Number
+pub mod Shown
 pub mod Tally
 pub mod Words

@@ -1,6 +1,7 @@
-ghost use Rattle.std.specs.Prelude.{◌≡◌};
+ghost use Rattle.std.specs.Prelude.{◌≡◌, Some};
 ghost use Rattle.test_reading_lines.specs.Words.{words_of};
 ghost use Rattle.test_reading_lines.specs.Line.{expected_of, call_line, line_of};
+ghost use Rattle.test_reading_lines.specs.Shown.{answered_text};
 
 use crate::call::{Call, Limits};
 use crate::words::{Words, words_of};
@@ -17,9 +18,11 @@ pub struct Answered {
 }
 
 impl fmt::Display for Answered {
+    ghost output = { λ a. Some (answered_text a) };
+
     fn fmt<W: fmt::Write>(&self, f: &mut fmt::Formatter<W>) -> fmt::Result {
         let Answered { answer, value } = *self;
-        write!(f, "{answer} {value:#x}")
+        write!(f, "{answer} 0x{value:x}")
     }
 }
 

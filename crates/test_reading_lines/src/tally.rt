@@ -1,4 +1,5 @@
-ghost use Rattle.std.specs.Prelude.{◌≡◌};
+ghost use Rattle.std.specs.Prelude.{◌≡◌, Some};
+ghost use Rattle.test_reading_lines.specs.Shown.{tally_text};
 ghost use Rattle.test_reading_lines.specs.Tally.{outcome_of, tally, with_outcome, with_file};
 
 use crate::line::{Answered, Line};
@@ -82,6 +83,8 @@ impl Tally {
 }
 
 impl fmt::Display for Tally {
+    ghost output = { λ t. Some (tally_text t) };
+
     fn fmt<W: fmt::Write>(&self, f: &mut fmt::Formatter<W>) -> fmt::Result {
         let Tally {
             readings,

@@ -40,7 +40,9 @@ fn read_full(file: &mut impl Read, buffer: &mut [u8]) -> usize
 }
 
 // The bytes of the file at a path, and none where it can't be opened: that file, too, was not read whole.
-fn read_file<'a>(rt: &impl Files, path: &[u8], buffer: &'a mut [u8]) -> &'a [u8] {
+fn read_file<'a>(rt: &impl Files, path: &[u8], buffer: &'a mut [u8]) -> &'a [u8]
+    ensures { length result.now ≤ length buffer.old }
+{
     let Ok(path) = str::from_utf8(path) else {
         return &[];
     };

@@ -15,7 +15,7 @@ use Rattle.walk_accesses.specs.Storing.{stored_to, store_value, store_element, s
 use Rattle.walk_operations.specs.Plan.{SameWalk}
 use Rattle.walk_transfers.specs.Moving.{zero_element}
 use Rattle.walk_transfers.specs.Transfer.{Transferred, refused, started}
-use Rattle.walk_transfers.proofs.TransferLaws.{walk_started}
+use Rattle.walk_transfers.proofs.Walks.{same_started}
 
 -- an access by the test of its address
 module _ (address bytes : ℕ) (served : Transferred) where
@@ -83,7 +83,7 @@ pub load_started :
     SameWalk (load_unit p) position start
 unfolding load_unit
 load_started p position e =
-    walk_started p.sides 4 (load_element p) (zero_element p.sides)
+    same_started p.sides 4 (load_element p) (zero_element p.sides)
     (λ c. load_anywhere c _ p) (λ c i j. unfold zero_element in refl) position e
 
 pub store_started :
@@ -91,6 +91,6 @@ pub store_started :
     SameWalk (store_unit p) position start
 unfolding store_unit
 store_started p position e =
-    walk_started p.sides 4 (store_element p) (store_zero p)
+    same_started p.sides 4 (store_element p) (store_zero p)
     (λ c i j. unfold store_element in store_anywhere c _ p j _)
     (λ c i j. unfold store_zero in store_anywhere c _ p j 0) position e

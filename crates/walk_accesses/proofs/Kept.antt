@@ -6,7 +6,8 @@ use Rattle.walk_pausable.specs.Walk.{walk}
 use Rattle.walk_pausable.proofs.Invariant.{walk_keeps}
 use Rattle.walk_pairs.specs.declared.Pair.{Pair}
 use Rattle.walk_pairs.specs.declared.Pair.TheVariants.{Found, Zeroed, End}
-use Rattle.walk_operations.specs.Context.{Context, pausing}
+use Rattle.walk_operations.specs.declared.position.Position.{Position}
+use Rattle.walk_operations.specs.Context.{Context, context, pausing}
 use Rattle.walk_transfers.specs.declared.sides.Sides.{Sides}
 use Rattle.walk_transfers.specs.Moving.{zero_element}
 use Rattle.walk_transfers.specs.Transfer.{Transferred, moved, refused, Element, pair_of, after_transfer, at_pair, transfer_unit}
@@ -46,27 +47,37 @@ module _ (part : List ℕ → List ℕ → List ℕ) (kept : List ℕ) where
       by (Found i j) = unfold at_pair in at i j (transfer c i j) (one c i j q)
       by (Zeroed i j) = unfold at_pair in at i j (zero c i j) (two c i j q)
 
-pub load_keeps_memory :
-    (p : LoadPlan) (n : ℕ) (c : Context) → (walk pausing (load_unit p) n c).state.memory ≡ c.memory
+pub load_unit_keeps_memory :
+    (p : LoadPlan) (memory : List ℕ) (c : Context) → c.memory ≡ memory → (load_unit p c).state.memory ≡ memory
 unfolding load_unit load_element where_aligned
-load_keeps_memory p n c =
-    walk_keeps pausing _ (Same (λ registers memory. memory) c.memory)
-    (unit_keeps (λ registers memory. memory) c.memory p.sides 4 (load_element p) (zero_element p.sides) one
-    (λ d i j q. unfold zero_element in q)) n c refl
+load_unit_keeps_memory p kept =
+    unit_keeps (λ registers memory. memory) kept p.sides 4 (load_element p) (zero_element p.sides) one
+    (λ d i j q. unfold zero_element in q)
   where
     one :
-        (d : Context) (i j : ℕ) → Same (λ registers memory. memory) c.memory d →
-        Leaves (Same (λ registers memory. memory) c.memory) (load_element p d i j) d
+        (d : Context) (i j : ℕ) → Same (λ registers memory. memory) kept d →
+        Leaves (Same (λ registers memory. memory) kept) (load_element p d i j) d
     one d i j q =
         let address = address_at p.sides.source.place p.offset p.width d.registers i in
-        by_cond (λ t. Leaves (Same (λ registers memory. memory) c.memory) t d) (aligned address (bytes_of p.width))
+        by_cond (λ t. Leaves (Same (λ registers memory. memory) kept) t d) (aligned address (bytes_of p.width))
         (λ e. by address (load_value d.memory address p.width p.signed)) (λ e. q)
       where
         by :
             (address : ℕ) (l : Result ℕ Outside) →
-            Leaves (Same (λ registers memory. memory) c.memory) (loaded_to p d address j l) d
+            Leaves (Same (λ registers memory. memory) kept) (loaded_to p d address j l) d
         by address (Ok value) = q
         by address (Err outside) = q
+
+-- the same of a unit on a memory that is not looked into
+pub load_keeps :
+    (p : LoadPlan) (bytes registers : List ℕ) (position : Position) →
+    (load_unit p (context registers bytes position)).state.memory ≡ bytes
+load_keeps p bytes registers position = load_unit_keeps_memory p bytes (context registers bytes position) refl
+
+pub load_keeps_memory :
+    (p : LoadPlan) (n : ℕ) (c : Context) → (walk pausing (load_unit p) n c).state.memory ≡ c.memory
+load_keeps_memory p n c =
+    walk_keeps pausing (load_unit p) (λ d. d.memory ≡ c.memory) (load_unit_keeps_memory p c.memory) n c refl
 
 pub store_keeps_registers :
     (p : StorePlan) (n : ℕ) (c : Context) → (walk pausing (store_unit p) n c).state.registers ≡ c.registers

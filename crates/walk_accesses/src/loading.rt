@@ -1,7 +1,8 @@
 // A load: its source side is the address.
 ghost use Rattle.std.specs.Prelude.{◌≡◌, ◌<◌};
 ghost use Rattle.walk_operands.specs.Place.{register_at};
-ghost use Rattle.walk_operations.specs.Context.{context, outcome_of};
+ghost use Rattle.walk_pausable.specs.Walk.{walk};
+ghost use Rattle.walk_operations.specs.Context.{context, outcome_of, pausing, reading};
 ghost use Rattle.walk_accesses.specs.Loading.{address_at, load_value, load_unit};
 ghost use Rattle.walk_transfers.specs.SidesReady.{OfRegisters, Begins, Standing};
 
@@ -13,7 +14,7 @@ use scalar::signed::sign_extend;
 use scalar::width::Width;
 use walk_operands::place::Place;
 use walk_operations::position::{Fault, Position, Ran};
-use walk_operations::walk::Plan;
+use walk_operations::walk::{Plan, walk};
 use walk_pairs::Pair;
 use walk_transfers::sides::Sides;
 
@@ -97,17 +98,44 @@ impl LoadPlan {
         };
         sides.put(position, 4, registers, i, j, value)
     }
+
+    // At most as many elements as allowed.
+    pub fn walk(
+        self,
+        position: Position,
+        allowance: u16,
+        registers: &mut [u64; REGISTERS],
+        memory: &[u8],
+    ) -> Ran
+        requires sides_ready { Begins self.sides position }
+        requires registers { OfRegisters self.sides.destination }
+        ensures { let start = context registers.old memory.now position in
+            outcome_of result registers.new memory.now ≡ walk pausing (load_unit self) allowance start }
+    {
+        let plan = Reading { plan: self, memory };
+        let mut none = [0u8; 0];
+        walk(plan, position, allowance, registers, &mut none)
+    }
 }
 
-impl Plan for LoadPlan {
-    ghost begins = { λ plan position. Begins plan.sides position × OfRegisters plan.sides.destination };
+// A load and the memory that it reads, so that its walk is lent none to write.
+#[derive(Clone, Copy)]
+struct Reading<'a> {
+    plan: LoadPlan,
+    memory: &'a [u8],
+}
 
-    ghost stands = { λ plan position. Standing plan.sides position × OfRegisters plan.sides.destination };
+impl<'a> Plan<[u64; REGISTERS]> for Reading<'a> {
+    ghost registers_in = { λ registers. registers };
 
-    ghost unit_of = { load_unit };
+    ghost begins = { λ r position. Begins r.plan.sides position × OfRegisters r.plan.sides.destination };
+
+    ghost stands = { λ r position. Standing r.plan.sides position × OfRegisters r.plan.sides.destination };
+
+    ghost unit_of = { λ r. reading r.memory.now (load_unit r.plan) };
 
     fn start(self, position: Position) -> Position {
-        self.sides.started(position)
+        self.plan.sides.started(position)
     }
 
     fn walk_unit(
@@ -116,6 +144,6 @@ impl Plan for LoadPlan {
         registers: &mut [u64; REGISTERS],
         memory: &mut [u8],
     ) -> Ran {
-        self.unit(position, registers, memory)
+        self.plan.unit(position, registers, self.memory)
     }
 }

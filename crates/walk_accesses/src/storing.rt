@@ -2,7 +2,9 @@
 ghost use Rattle.std.specs.Prelude.{◌≡◌, ◌<◌};
 ghost use Rattle.memory.specs.Transfer.{store_answer, stored};
 ghost use Rattle.scalar.specs.Width.{bytes_of};
-ghost use Rattle.walk_operations.specs.Context.{context, outcome_of};
+ghost use Rattle.walk_pausable.specs.Walk.{walk};
+ghost use Rattle.walk_operations.specs.Context.{context, outcome_of, pausing};
+ghost use Rattle.walk_operations.specs.Plan.{SameWalk};
 ghost use Rattle.walk_transfers.specs.Transfer.{after_transfer};
 ghost use Rattle.walk_transfers.specs.SidesReady.{SidesReady, OfRegisters, Begins, Standing};
 ghost use Rattle.walk_accesses.specs.Storing.{store_value, store_unit};
@@ -14,7 +16,7 @@ use memory::store::store;
 use registers::REGISTERS;
 use scalar::width::Width;
 use walk_operations::position::{Fault, Position, Ran};
-use walk_operations::walk::Plan;
+use walk_operations::walk::{Plan, walk};
 use walk_pairs::Pair;
 use walk_transfers::sides::Sides;
 
@@ -82,25 +84,49 @@ impl StorePlan {
         };
         self.store_at(position, registers, memory, i, j, value)
     }
+
+    // At most as many elements as allowed.
+    pub fn walk(
+        self,
+        position: Position,
+        allowance: u16,
+        registers: &[u64; REGISTERS],
+        memory: &mut [u8],
+    ) -> Ran
+        requires sides_ready { Begins self.sides position }
+        requires registers { OfRegisters self.sides.source }
+        ensures { let start = context registers.now memory.old position in
+            outcome_of result registers.now memory.new ≡ walk pausing (store_unit self) allowance start }
+    {
+        let mut lent = registers;
+        walk(self, position, allowance, &mut lent, memory)
+    }
 }
 
-impl Plan for StorePlan {
+impl<'a> Plan<&'a [u64; REGISTERS]> for StorePlan {
+    ghost registers_in = { λ registers. registers.now };
+
     ghost begins = { λ plan position. Begins plan.sides position × OfRegisters plan.sides.source };
 
     ghost stands = { λ plan position. Standing plan.sides position × OfRegisters plan.sides.source };
 
     ghost unit_of = { store_unit };
 
-    fn start(self, position: Position) -> Position {
+    // With clauses of its own, since those of the trait are not given where its parameter is a reference.
+    fn start(self, position: Position) -> Position
+        requires { Begins self.sides position × OfRegisters self.sides.source }
+        ensures stands { Standing self.sides result × OfRegisters self.sides.source }
+        ensures same { SameWalk (store_unit self) position result }
+    {
         self.sides.started(position)
     }
 
     fn walk_unit(
         self,
         position: Position,
-        registers: &mut [u64; REGISTERS],
+        registers: &mut &'a [u64; REGISTERS],
         memory: &mut [u8],
     ) -> Ran {
-        self.unit(position, registers, memory)
+        self.unit(position, *registers, memory)
     }
 }

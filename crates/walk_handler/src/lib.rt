@@ -12,7 +12,6 @@ use answers::Answer;
 use decode::decoded::Decoded;
 use registers::REGISTERS;
 use walk_operations::position::{Position, Ran};
-use walk_operations::walk::walk;
 use walk_plans::checks::checked;
 use walk_plans::planning::{load_plan, move_plan, operation_plan, store_plan};
 
@@ -41,11 +40,11 @@ fn walk_word(
         }
         Decoded::Load(w) => {
             let plan = load_plan(w, vl, registers);
-            walk(plan, position, allowance, registers, memory)
+            plan.walk(position, allowance, registers, memory)
         }
         Decoded::Store(w) => {
             let plan = store_plan(w, vl, registers);
-            walk(plan, position, allowance, registers, memory)
+            plan.walk(position, allowance, registers, memory)
         }
         Decoded::Unknown => Ran {
             answer: Answer::UnknownWord,

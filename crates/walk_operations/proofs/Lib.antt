@@ -1,2 +1,3 @@
 pub mod OperationLaws
 pub mod Memoryless
+pub mod Reading

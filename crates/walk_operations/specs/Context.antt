@@ -61,3 +61,9 @@ fault_answer fault.Outside address = Outside address
 abbrev pub faulted : Fault → ℕ → Position → ℕ → ℕ → Ran
 faulted fault address p source destination =
     record { answer = fault_answer fault address; position = at_offsets p source destination }
+
+-- a unit on a memory that is not the one lent: it leaves the one lent as it is
+abbrev pub reading : List ℕ → (Context → Outcome Answer Context) → Context → Outcome Answer Context
+reading bytes unit c =
+    let o = unit (context c.registers bytes c.position) in
+    outcome o.answer (context o.state.registers c.memory o.state.position)

@@ -101,7 +101,9 @@ impl OperationPlan {
     }
 }
 
-impl Plan for OperationPlan {
+impl Plan<[u64; REGISTERS]> for OperationPlan {
+    ghost registers_in = { λ registers. registers };
+
     ghost begins = { λ plan position. OperationReady plan × (position.destination < plan.vl) };
 
     ghost stands = { λ plan position. OperationReady plan × (position.destination < plan.vl) };

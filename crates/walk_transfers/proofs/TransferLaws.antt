@@ -8,12 +8,12 @@ use native.Mathlib.Omega.{arith}
 use Rattle.bits.proofs.Booleans.{by_cond, or_false}
 use Rattle.answers.specs.declared.Answer.{Answer}
 use Rattle.walk_pausable.specs.Outcome.{Outcome}
+use Rattle.walk_pausable.specs.Walk.{walk}
 use Rattle.walk_pausable.proofs.Turn.{walk_same}
 use Rattle.walk_operations.specs.declared.position.Fault.{Fault}
 use Rattle.walk_operations.specs.declared.position.Position.{Position}
 use Rattle.walk_operations.specs.declared.position.Ran.{Ran}
 use Rattle.walk_operations.specs.Context.{Context, context, outcome_of, ended, faulted, pausing}
-use Rattle.walk_operations.specs.Plan.{SameWalk}
 use Rattle.walk_pairs.specs.declared.Side.{Side}
 use Rattle.walk_pairs.specs.declared.Pair.{Pair}
 use Rattle.walk_pairs.specs.declared.Pair.TheVariants.{Found, Zeroed, End}
@@ -111,6 +111,15 @@ module _ (s : Sides) (bytes : ℕ) (transfer zero : Element) (c : Context) where
       by (Found i j) = unfold at_pair in rw (same i j) (at i j (transfer c i j))
       by (Zeroed i j) = unfold at_pair in rw (same_zero i j) (at i j (zero c i j))
 
+  -- and so does a walk
+  pub walk_started :
+      ((i j : ℕ) → transfer (at_start s c) i j ≡ transfer c i j) → ((i j : ℕ) → zero (at_start s c) i j ≡ zero c i j) →
+      (n : ℕ) → 0 < n →
+      walk pausing (transfer_unit s bytes transfer zero) n (at_start s c)
+      ≡ walk pausing (transfer_unit s bytes transfer zero) n c
+  walk_started same same_zero n h =
+      walk_same pausing (transfer_unit s bytes transfer zero) n _ _ h (unit_started same same_zero)
+
   -- a unit leaves both offsets below VL and both sides standing, whatever it answers
   pub unit_kept :
       Within s.vl c.position → (o : Outcome Answer Context) → o ≡ transfer_unit s bytes transfer zero c →
@@ -136,15 +145,3 @@ module _ (s : Sides) (bytes : ℕ) (transfer zero : Element) (c : Context) where
       }
       by (Found i j) e = unfold at_pair in at i j (reached s c.position i j within (inl e)) (transfer c i j)
       by (Zeroed i j) e = unfold at_pair in at i j (reached s c.position i j within (inr e)) (zero c i j)
-
--- and so does a walk, where transfers go by registers and memory alone
-pub walk_started :
-    (s : Sides) (bytes : ℕ) (transfer zero : Element) →
-    ((c : Context) (i j : ℕ) → transfer (at_start s c) i j ≡ transfer c i j) →
-    ((c : Context) (i j : ℕ) → zero (at_start s c) i j ≡ zero c i j) → {start : Position} (position : Position) →
-    start ≡ started s position → SameWalk (transfer_unit s bytes transfer zero) position start
-walk_started s bytes transfer zero same same_zero position e n registers memory h =
-    let c = context registers memory position in
-    rw e
-    (walk_same pausing (transfer_unit s bytes transfer zero) n _ _ h
-    (unit_started s bytes transfer zero c (same c) (same_zero c)))

@@ -4,7 +4,7 @@ use Rattle.registers.specs.Written.{written}
 use Rattle.answers.specs.declared.Answer.{Answer}
 use Rattle.walk_pausable.specs.Outcome.{Outcome}
 use Rattle.walk_operations.specs.declared.position.Position.{Position}
-use Rattle.walk_operations.specs.Context.{Context, ended}
+use Rattle.walk_operations.specs.Context.{Context, context, ended}
 use Rattle.walk_operations.proofs.Memoryless.{Runs, Memoryless}
 use Rattle.walk_operands.specs.Place.{register_at}
 use Rattle.walk_pairs.specs.declared.Pair.{Pair}
@@ -15,7 +15,7 @@ use Rattle.walk_transfers.specs.Moving.{move_element, zero_element, move_unit}
 use Rattle.walk_transfers.specs.SidesReady.{Begins, Standing}
 use Rattle.walk_transfers.specs.Transfer.{Element, started, pair_of, after_pair, after_transfer, at_pair, transfer_unit}
 use Rattle.walk_transfers.proofs.Standing.{started_stands, started_within}
-use Rattle.walk_transfers.proofs.TransferLaws.{unit_kept, walk_started}
+use Rattle.walk_transfers.proofs.TransferLaws.{at_start, unit_kept, walk_started}
 
 pub start_standing : {s : Sides} {p start : Position} → Begins s p → start ≡ started s p → Standing s start
 start_standing begins e = rw e (begins.0, started_within _ _ begins.1, started_stands _ _)
@@ -26,11 +26,21 @@ pub unit_standing :
 unit_standing s bytes transfer zero c {o} standing e =
     let kept = unit_kept s bytes transfer zero c standing.1 o e in (standing.0, kept.within, kept.stands)
 
+-- a walk goes from any position as from where both sides start, where transfers go by registers and memory alone
+pub same_started :
+    (s : Sides) (bytes : ℕ) (transfer zero : Element) →
+    ((c : Context) (i j : ℕ) → transfer (at_start s c) i j ≡ transfer c i j) →
+    ((c : Context) (i j : ℕ) → zero (at_start s c) i j ≡ zero c i j) → {start : Position} (position : Position) →
+    start ≡ started s position → SameWalk (transfer_unit s bytes transfer zero) position start
+same_started s bytes transfer zero same same_zero position e n registers memory h =
+    let c = context registers memory position in
+    rw e (walk_started s bytes transfer zero c (same c) (same_zero c) n h)
+
 -- a move goes by registers and memory alone
 pub move_started : (s : Sides) (p : Position) {start : Position} → start ≡ started s p → SameWalk (move_unit s) p start
 unfolding move_unit
 move_started s p e =
-    walk_started s 2 (move_element s) (zero_element s)
+    same_started s 2 (move_element s) (zero_element s)
     (λ c i j. unfold move_element in refl) (λ c i j. unfold zero_element in refl) p e
 
 -- a move doesn't touch memory

@@ -58,7 +58,9 @@ impl Sides {
     }
 }
 
-impl Plan for Sides {
+impl Plan<[u64; REGISTERS]> for Sides {
+    ghost registers_in = { λ registers. registers };
+
     ghost begins = { MoveBegins };
 
     ghost stands = { MoveStanding };
@@ -87,7 +89,9 @@ struct Unmasked {
     ghost destination_on: { sides.destination.mask.on ≡ 2 ^ 64 - 1 },
 }
 
-impl Plan for Unmasked {
+impl Plan<[u64; REGISTERS]> for Unmasked {
+    ghost registers_in = { λ registers. registers };
+
     ghost begins = { λ u. MoveBegins u.sides };
 
     ghost stands = { λ u. MoveStanding u.sides };

@@ -12,11 +12,17 @@ move_walk-requires-clause-sides_ready c = (move_ready c.requires _ c.in-Move.is 
 pub move_walk-requires-clause-registers : goal.move_walk-requires-clause-registers
 move_walk-requires-clause-registers c = (move_ready c.requires _ c.in-Move.is c.move_plan-plan.ensures).1
 
-pub walk-requires-in-Load : goal.walk-requires-in-Load
-walk-requires-in-Load c = load_ready c.requires _ c.in-Load.is c.load_plan-plan.ensures
+pub walk-requires-in-Load-clause-sides_ready : goal.walk-requires-in-Load-clause-sides_ready
+walk-requires-in-Load-clause-sides_ready c = (load_ready c.requires _ c.in-Load.is c.load_plan-plan.ensures).0
 
-pub walk-requires-in-Store : goal.walk-requires-in-Store
-walk-requires-in-Store c = store_ready c.requires _ c.in-Store.is c.store_plan-plan.ensures
+pub walk-requires-in-Load-clause-registers : goal.walk-requires-in-Load-clause-registers
+walk-requires-in-Load-clause-registers c = (load_ready c.requires _ c.in-Load.is c.load_plan-plan.ensures).1
+
+pub walk-requires-in-Store-clause-sides_ready : goal.walk-requires-in-Store-clause-sides_ready
+walk-requires-in-Store-clause-sides_ready c = (store_ready c.requires _ c.in-Store.is c.store_plan-plan.ensures).0
+
+pub walk-requires-in-Store-clause-registers : goal.walk-requires-in-Store-clause-registers
+walk-requires-in-Store-clause-registers c = (store_ready c.requires _ c.in-Store.is c.store_plan-plan.ensures).1
 
 pub returns-in-Operation : goal.returns-in-Operation
 unfolding prepared

@@ -1,5 +1,5 @@
 use Rattle.stream_feed.proofs.Texts.{wrote_within, fed_wrote, fed_stream}
-use Rattle.stream_io.proofs.Onward.{part_length, part_next, part_sent, next_text, onward}
+use Rattle.stream_io.proofs.Onward.{part_length, part_next, part_sent, next_text}
 use Rattle.stream_io.proofs.Session.feed_and_write.Goals as goal
 
 pub slice_bounds-write_next-end : goal.slice_bounds-write_next-end
@@ -15,5 +15,4 @@ write_next-requires g c =
 pub returns : goal.returns
 returns g c =
     let sent = part_sent (fed_wrote _ _ _ _ _ _ _ _ c.in-Ok.ensures).1 c.write_next.ensures in
-    onward _ _ c.requires c.args.piece.now _ _ (fed_stream _ _ _ _ _ _ _ _ c.in-Ok.ensures)
-    (sent.count _ c.in_ok-written.was)
+    record { stream = fed_stream _ _ _ _ _ _ _ _ c.in-Ok.ensures; count = sent.count _ c.in_ok-written.was }

@@ -1,5 +1,5 @@
 use Rattle.std.proofs.Common.{◌≡◌}
-use Rattle.stream_io.proofs.Onward.{next_last, whole}
+use Rattle.stream_io.proofs.Onward.{next_last, whole, onward as fed_on}
 use Rattle.stream_io.proofs.Session.take_turn.Goals as goal
 
 pub write_last-requires : goal.write_last-requires
@@ -14,3 +14,8 @@ returns-then-n-eq0 g c =
           let same : c.in_ok-written.written ≡ n = cc in
           whole _ _ c.requires n (rw same at count);
     }
+
+pub returns : goal.returns
+returns g c =
+    let by = c.in_ok-feed_and_write.ensures in
+    record { onward = λ e. fed_on _ _ c.requires _ _ _ by.stream by.count; ended = λ n e. cc }

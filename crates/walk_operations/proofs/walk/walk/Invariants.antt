@@ -7,8 +7,9 @@ use Rattle.walk_operations.proofs.walk.walk.Given as goal
 abbrev pub invariant-loop-done : goal.invariant-loop-done
 invariant-loop-done g l =
     let unit = g.P.Plan.unit_of l.plan in
+    let lent = g.P.Plan.registers_in in
     g.P.Plan.stands l.plan l.current
     × (
-    walk pausing unit (l.allowance - l._done) (context l.registers l.memory l.current)
-    ≡ walk pausing unit l.allowance (context l.initial.registers l.initial.memory l.initial.current)
+    walk pausing unit (l.allowance - l._done) (context (lent l.registers) l.memory l.current)
+    ≡ walk pausing unit l.allowance (context (lent l.initial.registers) l.initial.memory l.initial.current)
     )

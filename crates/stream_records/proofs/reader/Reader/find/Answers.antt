@@ -6,6 +6,7 @@ pub returns-in-Some : goal.returns-in-Some
 returns-in-Some c =
     let taking = c.in-Some.ensures in
     record {
+      onward = omega arith;
       same = sym (found_step _ _ _ _ _ c.loop-i-test.true taking) ∙ c.loop-i.invariant.same;
       sized = taking.sized;
       short = taking.short;
@@ -24,7 +25,8 @@ loop-i-preserved c =
 
 pub returns : goal.returns
 returns c = record {
-  same = found_none c.loop-i.self _ _ c.loop-i-test.false ∙ c.loop-i.invariant.same;
+  onward = omega arith;
+  same = found_none c.loop-i.self _ _ c.loop-i-test.false (omega arith) ∙ c.loop-i.invariant.same;
   sized = c.loop-i.invariant.sized;
   short = c.loop-i.invariant.short;
   reached = omega (arith, c.loop-i.invariant.reached);
