@@ -286,7 +286,7 @@ def lock(tree):
         tree.forget()
         other, said = tree.start_into("said", environment={"WRENCOBBLE_LOCKED": "/"})
         awaited("a lock of another tree is not this one's", lambda: WAITS in said.read_bytes())
-        check("it waits", other.poll() is None)
+        check("it waits for the lock", other.poll() is None)
     check("it goes on when the lock is free", ended(other)[0] == PRINTED)
     reading = tree.start("-", stdin=subprocess.PIPE)
     reading.stdin.write(STREAM)
@@ -318,11 +318,11 @@ def progress(tree):
     tree.hold()
     process, said = tree.start_into("said")
     awaited("the crate at hand is said", lambda: said.read_text().endswith("\n"))
-    check("it is", tree.is_held(), *tree.calls())
+    check("it is the crate at work", tree.is_held(), *tree.calls())
     tree.let_go()
     ended(process)
     found = re.fullmatch(r"run: proving answers \((\d+) of (\d+) are proved\)\n", said.read_text())
-    check("and it alone", found and 0 < int(found[1]) < int(found[2]) < len(tree.crates), said.read_text())
+    check("nothing else is said", found and 0 < int(found[1]) < int(found[2]) < len(tree.crates), said.read_text())
 
 
 def every_script_locks():

@@ -6,8 +6,7 @@ use Rattle.walk_pausable.specs.Walk.{walk}
 use Rattle.walk_pausable.proofs.Invariant.{walk_keeps}
 use Rattle.walk_pairs.specs.declared.Pair.{Pair}
 use Rattle.walk_pairs.specs.declared.Pair.TheVariants.{Found, Zeroed, End}
-use Rattle.walk_operations.specs.declared.position.Position.{Position}
-use Rattle.walk_operations.specs.Context.{Context, context, pausing}
+use Rattle.walk_operations.specs.Context.{Context, pausing}
 use Rattle.walk_transfers.specs.declared.sides.Sides.{Sides}
 use Rattle.walk_transfers.specs.Moving.{zero_element}
 use Rattle.walk_transfers.specs.Transfer.{Transferred, moved, refused, Element, pair_of, after_transfer, at_pair, transfer_unit}
@@ -67,12 +66,6 @@ load_unit_keeps_memory p kept =
             Leaves (Same (λ registers memory. memory) kept) (loaded_to p d address j l) d
         by address (Ok value) = q
         by address (Err outside) = q
-
--- the same of a unit on a memory that is not looked into
-pub load_keeps :
-    (p : LoadPlan) (bytes registers : List ℕ) (position : Position) →
-    (load_unit p (context registers bytes position)).state.memory ≡ bytes
-load_keeps p bytes registers position = load_unit_keeps_memory p bytes (context registers bytes position) refl
 
 pub load_keeps_memory :
     (p : LoadPlan) (n : ℕ) (c : Context) → (walk pausing (load_unit p) n c).state.memory ≡ c.memory

@@ -9,7 +9,7 @@ use Rattle.walk_operations.specs.Context.{Context, context, pausing, reading}
 use Rattle.walk_operations.specs.Plan.{SameWalk}
 
 module _ (bytes : List ℕ) (unit : Context → Outcome Answer Context)
-    (keeps : (registers : List ℕ) (position : Position) → (unit (context registers bytes position)).state.memory ≡ bytes)
+    (keeps : (c : Context) → c.memory ≡ bytes → (unit c).state.memory ≡ bytes)
   where
     pub walk_reading :
         (n : ℕ) (c : Context) → walk pausing (reading bytes unit) n c ≡ reading bytes (walk pausing unit n) c
@@ -22,7 +22,9 @@ module _ (bytes : List ℕ) (unit : Context → Outcome Answer Context)
         first = unit (context c.registers bytes c.position)
 
         same : context first.state.registers bytes first.state.position ≡ first.state
-        same = ap (λ memory. context first.state.registers memory first.state.position) (sym (keeps c.registers c.position))
+        same =
+            ap (λ memory. context first.state.registers memory first.state.position)
+            (sym (keeps (context c.registers bytes c.position) refl))
 
         later : Context → Outcome Answer Context
         later s = let o = walk pausing unit n s in outcome o.answer (context o.state.registers c.memory o.state.position)
