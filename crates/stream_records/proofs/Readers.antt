@@ -98,11 +98,15 @@ module _ (r : Reader) (piece : List ℕ) (i : ℕ) where
   abbrev pub first : Search
   first = found (progress_of r) (drop i piece)
 
-  -- also from any other place past the end
-  pub found_none :
+  -- from any two places past the end
+  pub found_past :
       {k : ℕ} → length piece ≤ i → length piece ≤ k → searched None (progress_of r) (drop k piece) ≡ first
   unfolding found
-  found_none h e = rw (drop_of_length-le piece h, drop_of_length-le piece e)
+  found_past h e = rw (drop_of_length-le piece h, drop_of_length-le piece e)
+
+  -- and from the end itself
+  pub found_none : length piece ≤ i → searched None (progress_of r) (drop (length piece) piece) ≡ first
+  found_none h = found_past h (omega arith)
 
 module _ (r : Reader) (piece : List ℕ) (i : ℕ) (t : Option Record) (r' : Reader) (inside : i < length piece)
     (taking : Taking r (get_or piece i 0) t r')

@@ -32,7 +32,6 @@ pub record Taking (r : Reader) (byte : ℕ) (t : Option Record) (r' : Reader) : 
 
 pub record Finding (r : Reader) (piece : List ℕ) (from : ℕ) (f : Found) : Type 0 where
   pub same : searched f.whole (progress_of f.reader) (drop f.at piece) ≡ found (progress_of r) (drop from piece)
-  pub onward : from ≤ f.at
   pub sized : length f.reader.kept ≡ 11
   pub short : f.reader.length ≤ 10
   pub reached :

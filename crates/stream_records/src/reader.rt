@@ -1,4 +1,4 @@
-ghost use Rattle.std.specs.Prelude.{◌≡◌, ◌-◌, length};
+ghost use Rattle.std.specs.Prelude.{◌≡◌, ◌-◌, ◌≤◌, length};
 ghost use Rattle.stream_records.specs.Reader.{new_reader, fresh_reader, reader_without_runs};
 ghost use Rattle.stream_records.specs.Reader.{Ready, Taking, Finding};
 
@@ -83,7 +83,8 @@ impl Reader {
     // Takes the bytes of a piece from a place on, up to the end of a record or of the piece.
     pub fn find(mut self, piece: &[u8], from: usize) -> Found
         requires { Ready self (length piece.now - from) }
-        ensures { Finding self piece.now from result }
+        ensures finding { Finding self piece.now from result }
+        ensures onward { from ≤ result.at }
     {
         for i in from..piece.len() {
             if let Some(record) = self.take(piece[i]) {

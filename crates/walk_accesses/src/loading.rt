@@ -13,8 +13,9 @@ use registers::REGISTERS;
 use scalar::signed::sign_extend;
 use scalar::width::Width;
 use walk_operands::place::Place;
+use walk_operations::generic::walk_over;
 use walk_operations::position::{Fault, Position, Ran};
-use walk_operations::walk::{Plan, walk};
+use walk_operations::walk::Plan;
 use walk_pairs::Pair;
 use walk_transfers::sides::Sides;
 
@@ -114,7 +115,28 @@ impl LoadPlan {
     {
         let plan = Reading { plan: self, memory };
         let mut none = [0u8; 0];
-        walk(plan, position, allowance, registers, &mut none)
+        walk_over(plan, position, allowance, registers, &mut none)
+    }
+}
+
+impl Plan for LoadPlan {
+    ghost begins = { λ plan position. Begins plan.sides position × OfRegisters plan.sides.destination };
+
+    ghost stands = { λ plan position. Standing plan.sides position × OfRegisters plan.sides.destination };
+
+    ghost unit_of = { load_unit };
+
+    fn start(self, position: Position) -> Position {
+        self.sides.started(position)
+    }
+
+    fn walk_unit(
+        self,
+        position: Position,
+        registers: &mut [u64; REGISTERS],
+        memory: &mut [u8],
+    ) -> Ran {
+        self.unit(position, registers, memory)
     }
 }
 
@@ -125,9 +147,7 @@ struct Reading<'a> {
     memory: &'a [u8],
 }
 
-impl<'a> Plan<[u64; REGISTERS]> for Reading<'a> {
-    ghost registers_in = { λ registers. registers };
-
+impl<'a> Plan for Reading<'a> {
     ghost begins = { λ r position. Begins r.plan.sides position × OfRegisters r.plan.sides.destination };
 
     ghost stands = { λ r position. Standing r.plan.sides position × OfRegisters r.plan.sides.destination };

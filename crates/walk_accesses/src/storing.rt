@@ -15,8 +15,9 @@ use memory::access::Outside;
 use memory::store::store;
 use registers::REGISTERS;
 use scalar::width::Width;
+use walk_operations::generic::{PlanOver, walk_over};
 use walk_operations::position::{Fault, Position, Ran};
-use walk_operations::walk::{Plan, walk};
+use walk_operations::walk::Plan;
 use walk_pairs::Pair;
 use walk_transfers::sides::Sides;
 
@@ -99,11 +100,32 @@ impl StorePlan {
             outcome_of result registers.now memory.new ≡ walk pausing (store_unit self) allowance start }
     {
         let mut lent = registers;
-        walk(self, position, allowance, &mut lent, memory)
+        walk_over(self, position, allowance, &mut lent, memory)
     }
 }
 
-impl<'a> Plan<&'a [u64; REGISTERS]> for StorePlan {
+impl Plan for StorePlan {
+    ghost begins = { λ plan position. Begins plan.sides position × OfRegisters plan.sides.source };
+
+    ghost stands = { λ plan position. Standing plan.sides position × OfRegisters plan.sides.source };
+
+    ghost unit_of = { store_unit };
+
+    fn start(self, position: Position) -> Position {
+        self.sides.started(position)
+    }
+
+    fn walk_unit(
+        self,
+        position: Position,
+        registers: &mut [u64; REGISTERS],
+        memory: &mut [u8],
+    ) -> Ran {
+        self.unit(position, registers, memory)
+    }
+}
+
+impl<'a> PlanOver<&'a [u64; REGISTERS]> for StorePlan {
     ghost registers_in = { λ registers. registers.now };
 
     ghost begins = { λ plan position. Begins plan.sides position × OfRegisters plan.sides.source };
@@ -118,7 +140,7 @@ impl<'a> Plan<&'a [u64; REGISTERS]> for StorePlan {
         ensures stands { Standing self.sides result × OfRegisters self.sides.source }
         ensures same { SameWalk (store_unit self) position result }
     {
-        self.sides.started(position)
+        Plan::start(self, position)
     }
 
     fn walk_unit(

@@ -5,8 +5,9 @@ ghost use Rattle.walk_operations.specs.Context.{WithAnyMemory, pausing};
 ghost use Rattle.walk_operations.specs.Operation.{second_at, element_of, go_on, operation_unit};
 ghost use Rattle.walk_operations.specs.OperationReady.{SecondFits, OperationReady};
 
+use crate::generic::walk_over;
 use crate::position::{Position, Ran};
-use crate::walk::{Plan, walk};
+use crate::walk::Plan;
 use compute::compute;
 use registers::{REGISTERS, write_within};
 use scalar::operator::Operator;
@@ -97,13 +98,11 @@ impl OperationPlan {
             registers.old position result registers.new }
     {
         let mut memory = [0u8; 0];
-        walk(self, position, allowance, registers, &mut memory)
+        walk_over(self, position, allowance, registers, &mut memory)
     }
 }
 
-impl Plan<[u64; REGISTERS]> for OperationPlan {
-    ghost registers_in = { λ registers. registers };
-
+impl Plan for OperationPlan {
     ghost begins = { λ plan position. OperationReady plan × (position.destination < plan.vl) };
 
     ghost stands = { λ plan position. OperationReady plan × (position.destination < plan.vl) };

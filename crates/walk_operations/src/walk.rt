@@ -1,18 +1,16 @@
-// The walk of any plan: one unit after another, in place.
-ghost use Rattle.std.specs.Prelude.{◌≡◌, true, ℕ, List};
+// The walk of any plan on registers and memory that are lent to be written.
+ghost use Rattle.std.specs.Prelude.{◌≡◌, true};
 ghost use Rattle.answers.specs.Answer.{pauses};
 ghost use Rattle.walk_pausable.specs.Walk.{walk};
 ghost use Rattle.walk_operations.specs.Context.{context, outcome_of, pausing};
 ghost use Rattle.walk_operations.specs.Plan.{OfPosition, UnitOf, SameWalk};
 
+use crate::generic::{PlanOver, walk_over};
 use crate::position::{Position, Ran};
+use registers::REGISTERS;
 
-// An instruction whose operands are resolved and whose masks are read. R is how registers are lent to it: an array that
-// it may write, or a shared reference to one.
-pub trait Plan<R>: Copy {
-    // The registers that are lent.
-    ghost registers_in: { R → List ℕ };
-
+// An instruction whose operands are resolved and whose masks are read, on an array of registers.
+pub trait Plan: Copy {
     // Where an instruction may stand, and where each of its units begins.
     ghost begins: { OfPosition Self };
 
@@ -28,38 +26,53 @@ pub trait Plan<R>: Copy {
         ensures same { SameWalk (unit_of self) position result };
 
     // One unit.
-    fn walk_unit(self, position: Position, registers: &mut R, memory: &mut [u8]) -> Ran
+    fn walk_unit(
+        self,
+        position: Position,
+        registers: &mut [u64; REGISTERS],
+        memory: &mut [u8],
+    ) -> Ran
         requires { stands self position }
-        ensures ran { let start = context (registers_in registers.old) memory.old position in
-            outcome_of result (registers_in registers.new) memory.new ≡ unit_of self start }
+        ensures ran { let start = context registers.old memory.old position in
+            outcome_of result registers.new memory.new ≡ unit_of self start }
         ensures stands { pauses result.answer ≡ true → stands self result.position };
 }
 
-// At most as many units as allowed. Registers and memory are lent apart: a struct of both would have to promise at each
-// method that it holds the same references.
-pub fn walk<R, P: Plan<R>>(
+// So the loop stands once, whatever way registers are lent.
+impl<P: Plan> PlanOver<[u64; REGISTERS]> for P {
+    ghost registers_in = { λ registers. registers };
+
+    ghost begins = { P.begins };
+
+    ghost stands = { P.stands };
+
+    ghost unit_of = { P.unit_of };
+
+    fn start(self, position: Position) -> Position {
+        Plan::start(self, position)
+    }
+
+    fn walk_unit(
+        self,
+        position: Position,
+        registers: &mut [u64; REGISTERS],
+        memory: &mut [u8],
+    ) -> Ran {
+        Plan::walk_unit(self, position, registers, memory)
+    }
+}
+
+// At most as many units as allowed.
+pub fn walk<P: Plan>(
     plan: P,
     position: Position,
     allowance: u16,
-    registers: &mut R,
+    registers: &mut [u64; REGISTERS],
     memory: &mut [u8],
 ) -> Ran
     requires { P.begins plan position }
-    ensures { let start = context (P.registers_in registers.old) memory.old position in
-        outcome_of result (P.registers_in registers.new) memory.new
-        ≡ walk pausing (P.unit_of plan) allowance start }
+    ensures { let start = context registers.old memory.old position in
+        outcome_of result registers.new memory.new ≡ walk pausing (P.unit_of plan) allowance start }
 {
-    if allowance == 0 {
-        return position.paused();
-    }
-    let mut current = plan.start(position);
-    for _done in 0..usize::from(allowance) {
-        let ran = plan.walk_unit(current, registers, memory);
-        let answer = ran.answer;
-        if !answer.pauses() {
-            return ran;
-        }
-        current = ran.position;
-    }
-    current.paused()
+    walk_over(plan, position, allowance, registers, memory)
 }

@@ -7,8 +7,9 @@ ghost use Rattle.walk_transfers.specs.SidesReady.{OfRegisters, Begins, Standing,
 
 use crate::sides::Sides;
 use registers::REGISTERS;
+use walk_operations::generic::walk_over;
 use walk_operations::position::{Position, Ran};
-use walk_operations::walk::{Plan, walk};
+use walk_operations::walk::Plan;
 use walk_pairs::Pair;
 
 impl Sides {
@@ -52,15 +53,13 @@ impl Sides {
         let mut memory = [0u8; 0];
         if self.unmasked() {
             let plan = Unmasked { sides: self };
-            return walk(plan, position, allowance, registers, &mut memory);
+            return walk_over(plan, position, allowance, registers, &mut memory);
         }
-        walk(self, position, allowance, registers, &mut memory)
+        walk_over(self, position, allowance, registers, &mut memory)
     }
 }
 
-impl Plan<[u64; REGISTERS]> for Sides {
-    ghost registers_in = { λ registers. registers };
-
+impl Plan for Sides {
     ghost begins = { MoveBegins };
 
     ghost stands = { MoveStanding };
@@ -89,9 +88,7 @@ struct Unmasked {
     ghost destination_on: { sides.destination.mask.on ≡ 2 ^ 64 - 1 },
 }
 
-impl Plan<[u64; REGISTERS]> for Unmasked {
-    ghost registers_in = { λ registers. registers };
-
+impl Plan for Unmasked {
     ghost begins = { λ u. MoveBegins u.sides };
 
     ghost stands = { λ u. MoveStanding u.sides };

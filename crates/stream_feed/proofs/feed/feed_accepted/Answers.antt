@@ -8,18 +8,18 @@ loop-record-init c = started _ _ _ _ _ (accepted _ _ _ c.requires)
 
 pub returns-in_default : goal.returns-in_default
 returns-in_default c =
-    ended _ _ _ _ _ c.loop-record.invariant c.find-found.result c.find-found.ensures c.in_default.is
+    ended _ _ _ _ _ c.loop-record.invariant c.find-found.result c.find-found.ensures.finding c.in_default.is
 
 pub apply_and_print-written-requires : goal.apply_and_print-written-requires
 apply_and_print-written-requires c =
-    fits _ _ _ _ _ c.loop-record.invariant c.find-found.result c.find-found.ensures _ c.in-Some.is
+    fits _ _ _ _ _ c.loop-record.invariant c.find-found.result c.find-found.ensures.finding _ c.in-Some.is
 
 pub loop-record-smaller : goal.loop-record-smaller
 loop-record-smaller c =
-    falls _ _ _ _ _ c.loop-record.invariant c.find-found.result c.find-found.ensures _ c.in-Some.is
+    falls _ _ _ _ _ c.loop-record.invariant c.find-found.result c.find-found.ensures.finding _ c.in-Some.is
 
 pub loop-record-preserved : goal.loop-record-preserved
 loop-record-preserved c =
     let applying = c.apply_and_print-written.ensures in
-    stepped _ _ _ _ _ c.loop-record.invariant c.find-found.result c.find-found.ensures _ c.in-Some.is applying
+    stepped _ _ _ _ _ c.loop-record.invariant c.find-found.result c.find-found.ensures.finding _ c.in-Some.is applying
     (search rules)

@@ -1,12 +1,11 @@
 use Rattle.std.proofs.Common.{arith, sym, ◌∙◌}
-use Rattle.stream_records.proofs.Readers.{found_none, found_step, found_later}
+use Rattle.stream_records.proofs.Readers.{found_past, found_step, found_later}
 use Rattle.stream_records.proofs.reader.Reader.find.Goals as goal
 
-pub returns-in-Some : goal.returns-in-Some
-returns-in-Some c =
+pub returns-in-Some-clause-finding : goal.returns-in-Some-clause-finding
+returns-in-Some-clause-finding c =
     let taking = c.in-Some.ensures in
     record {
-      onward = omega arith;
       same = sym (found_step _ _ _ _ _ c.loop-i-test.true taking) ∙ c.loop-i.invariant.same;
       sized = taking.sized;
       short = taking.short;
@@ -23,10 +22,9 @@ loop-i-preserved c =
       reached = omega (arith, taking.reached);
     }
 
-pub returns : goal.returns
-returns c = record {
-  onward = omega arith;
-  same = found_none c.loop-i.self _ _ c.loop-i-test.false (omega arith) ∙ c.loop-i.invariant.same;
+pub returns-clause-finding : goal.returns-clause-finding
+returns-clause-finding c = record {
+  same = found_past c.loop-i.self _ _ c.loop-i-test.false (omega arith) ∙ c.loop-i.invariant.same;
   sized = c.loop-i.invariant.sized;
   short = c.loop-i.invariant.short;
   reached = omega (arith, c.loop-i.invariant.reached);

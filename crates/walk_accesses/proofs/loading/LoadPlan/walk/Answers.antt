@@ -13,6 +13,6 @@ returns c =
     let start = context c.args.registers.now memory c.args.position in
     let left = walk pausing (load_unit c.args.self) c.args.allowance start in
     ap (λ o. record { answer = o.answer; state = context o.state.registers memory o.state.position })
-    (c.walk.ensures ∙ walk_reading memory (load_unit c.args.self) (load_unit_keeps_memory _ _) c.args.allowance _)
+    (c.walk_over.ensures ∙ walk_reading memory (load_unit c.args.self) (load_unit_keeps_memory _ _) c.args.allowance _)
     ∙ ap (λ kept. record { answer = left.answer; state = context left.state.registers kept left.state.position })
     (sym (load_keeps_memory c.args.self c.args.allowance start))

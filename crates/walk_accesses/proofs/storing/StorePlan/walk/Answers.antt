@@ -11,6 +11,6 @@ returns c =
     let registers = c.args.registers.now in
     let start = context registers c.args.memory.now c.args.position in
     let left = walk pausing (store_unit c.args.self) c.args.allowance start in
-    ap (λ o. record { answer = o.answer; state = context registers o.state.memory o.state.position }) c.walk.ensures
+    ap (λ o. record { answer = o.answer; state = context registers o.state.memory o.state.position }) c.walk_over.ensures
     ∙ ap (λ kept. record { answer = left.answer; state = context kept left.state.memory left.state.position })
     (sym (store_keeps_registers c.args.self c.args.allowance start))

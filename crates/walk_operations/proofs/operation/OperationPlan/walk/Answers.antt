@@ -2,4 +2,4 @@ use Rattle.walk_operations.proofs.Memoryless.{walk_memoryless, with_any, operati
 use Rattle.walk_operations.proofs.operation.OperationPlan.walk.Goals as goal
 
 pub returns : goal.returns
-returns c = with_any (walk_memoryless (operation_memoryless c.args.self) c.args.allowance) c.walk.ensures
+returns c = with_any (walk_memoryless (operation_memoryless c.args.self) c.args.allowance) c.walk_over.ensures

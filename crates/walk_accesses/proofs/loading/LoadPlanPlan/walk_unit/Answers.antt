@@ -1,0 +1,7 @@
+use Rattle.walk_transfers.proofs.Walks.{unit_standing}
+use Rattle.walk_accesses.specs.Loading.{load_unit}
+use Rattle.walk_accesses.proofs.loading.LoadPlanPlan.walk_unit.Goals as goal
+
+pub returns-clause-stands : goal.returns-clause-stands
+unfolding load_unit
+returns-clause-stands c paused = (unit_standing _ _ _ _ _ c.requires.0 c.unit.ensures, c.requires.1)
